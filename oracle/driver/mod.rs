@@ -1,0 +1,43 @@
+//! Asks the Rust: makes the four lists of its answers, or answers in plain text.
+
+mod answer;
+mod ask;
+mod bases;
+mod call;
+mod list_calls;
+mod list_index;
+mod list_intervals;
+mod list_places;
+mod place;
+mod record;
+mod rng;
+mod shape;
+
+use std::io::Write;
+use std::process::ExitCode;
+
+pub fn run() -> ExitCode {
+    let arguments: Vec<String> = std::env::args().skip(1).collect();
+    let done = match arguments.first().map(String::as_str) {
+        Some("index") => write(&list_index::list()),
+        Some("places") => write(&list_places::list()),
+        Some("calls") => write(&list_calls::list()),
+        Some("intervals") => write(&list_intervals::list()),
+        Some("ask") if arguments.len() > 1 => ask::answer_all(arguments.into_iter().skip(1)),
+        Some("ask") => ask::answer_all(std::io::stdin().lines().map_while(Result::ok)),
+        _ => Err("usage: oracle index | places | calls | intervals | ask [LINE ...]".to_string()),
+    };
+    match done {
+        Ok(()) => ExitCode::SUCCESS,
+        Err(message) => {
+            eprintln!("{message}");
+            ExitCode::FAILURE
+        }
+    }
+}
+
+fn write(list: &[u8]) -> Result<(), String> {
+    std::io::stdout()
+        .write_all(list)
+        .map_err(|error| error.to_string())
+}

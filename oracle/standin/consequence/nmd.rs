@@ -1,0 +1,1 @@
+//! Nothing: the calls of this module are among the lines removed.
