@@ -1,0 +1,90 @@
+-- The entry read is that of the codon with A at the place, which is the entry of the codon itself.
+-- Assumes nothing.
+use mathlib.Core.Path.{_≡_, _∙_, sym, ap}
+use native.Mathlib.Omega.{arith}
+use borrow.Author.Needs.{needs}
+use Rattle.codon.specs.Table.{standardTable, codonToIndex, translateCodon, buildAltCodon}
+use Rattle.codon.proofs.Index.{codon-below}
+use Rattle.codon.proofs.Replaced.{altered-is, altered-none, altered-lost, unaltered}
+use Rattle.codon.proofs.altered.translate_altered_codon.Statement.{statement}
+use Rattle.codon.proofs.altered.translate_altered_codon.Tie as tie
+
+-- what the place of the codon with A put in was found to be
+place-of :
+    (c : tie.After-codon-to-index) →
+    codonToIndex (buildAltCodon (c .before .before .before .args .c) (c .before .before .before .args .place) 65) ≡ c .codon-to-index .result
+place-of c = ap codonToIndex (sym (c .before .build-alt-codon .ensures)) ∙ sym (c .codon-to-index .ensures)
+
+translate-codon-requires : tie.Need-translate-codon-requires
+translate-codon-requires c κs = search needs
+
+returns : tie.Need-returns
+returns c =
+    let a = c .before .before .args in
+    rw (unaltered (a .c) (a .place) (a .b) (c .before .if1 .taken)) (c .translate-codon .ensures)
+
+build-alt-codon-requires : tie.Need-build-alt-codon-requires
+build-alt-codon-requires c κs = search needs
+
+codon-to-index-requires : tie.Need-codon-to-index-requires
+codon-to-index-requires c κs = search needs
+
+enum-known-n : tie.Need-enum-known-n
+enum-known-n c = search needs
+
+enum-told : tie.Need-enum-told
+enum-told c = search needs
+
+returns-2 : tie.Need-returns-2
+unfolding translateCodon
+returns-2 c =
+    let g = c .before .before in
+    let e = g .before .before in
+    let a = e .before .args in
+    rw (altered-none (a .c) (a .place) (a .b) (e .if1 .left) (place-of g ∙ c .enum-told .given .1))
+
+base-number-requires : tie.Need-base-number-requires
+base-number-requires c κs = search needs
+
+returns-3 : tie.Need-returns-3
+unfolding translateCodon
+returns-3 c =
+    let k = c .before in
+    let e = k .before .before .before .before .before .before in
+    let a = e .before .args in
+    rw (altered-lost (a .c) (a .place) (a .b) (e .if1 .left) (let h = k .base-number .ensures in omega arith))
+
+altered-letter-requires : tie.Need-altered-letter-requires
+altered-letter-requires c κs =
+    let n = c .before .before .before in
+    let g = n .before .before in
+    let a = g .before .before .before .args in
+    let h = codon-below (buildAltCodon (a .c) (a .place) 65) (n .n .given .0 .0) (place-of g ∙ n .n .given .1) in
+    omega arith
+
+returns-4 : tie.Need-returns-4
+returns-4 c =
+    let k = c .before .before in
+    let n = k .before .before in
+    let g = n .before .before in
+    let e = g .before .before in
+    let a = e .before .args in
+    c .altered-letter .ensures
+    ∙ altered-is (a .c) (a .b) (n .n .given .0 .0) (k .base-number .result) (omega arith) (sym (k .base-number .ensures)) standardTable (a .place)
+    (e .if1 .left) (place-of g ∙ n .n .given .1)
+
+pub translate-altered-codon-spec : {M : Type 1} → statement M
+translate-altered-codon-spec =
+    tie.close
+    (tie.spec
+    translate-codon-requires
+    returns
+    build-alt-codon-requires
+    codon-to-index-requires
+    enum-known-n
+    enum-told
+    returns-2
+    base-number-requires
+    returns-3
+    altered-letter-requires
+    returns-4)

@@ -1,0 +1,32 @@
+-- One case for each base.
+-- Assumes nothing.
+use borrow.Author.Tests.{ne-eqb}
+use Rattle.codon.specs.Bases.{complementOf}
+use Rattle.codon.proofs.bases.complement.Statement.{statement}
+use Rattle.codon.proofs.bases.complement.Tie as tie
+
+returns : tie.Need-returns
+unfolding complementOf
+returns c = rw (c .match .keys1)
+
+returns-2 : tie.Need-returns-2
+unfolding complementOf
+returns-2 c = rw (c .match .keys2)
+
+returns-3 : tie.Need-returns-3
+unfolding complementOf
+returns-3 c = rw (c .match .keys3)
+
+returns-4 : tie.Need-returns-4
+unfolding complementOf
+returns-4 c = rw (c .match .keys4)
+
+returns-5 : tie.Need-returns-5
+unfolding complementOf
+returns-5 c =
+    let b = c .before .args .b in
+    let r = c .match .rest in
+    rw (ne-eqb b 65 (r .0 .0 .0 .1), ne-eqb b 84 (r .0 .0 .1), ne-eqb b 67 (r .0 .1), ne-eqb b 71 (r .1))
+
+pub complement-spec : {M : Type 1} → statement M
+complement-spec = tie.close (tie.spec returns returns-2 returns-3 returns-4 returns-5)

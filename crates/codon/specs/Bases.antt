@@ -1,0 +1,32 @@
+-- Base numbers and complements of bytes.
+use Prim.Native.Nat.{ℕ}
+use mathlib.Core.Bool.{Bool, cond}
+use lib.Dec.{eqb, ltb}
+use Rattle.common.specs.Text.{byte}
+
+-- the number of a base, 0 to 3 for A, C, G and T; 4, none, for every other byte
+unfoldable pub baseNumber : ℕ → ℕ
+baseNumber b =
+    cond (eqb b (byte "A")) 0
+    (cond (eqb b (byte "C")) 1
+    (cond (eqb b (byte "G")) 2
+    (cond (eqb b (byte "T")) 3 4)))
+
+-- the byte is A, C, G or T
+abbrev pub isBase : ℕ → Bool
+isBase b = ltb (baseNumber b) 4
+
+-- the byte of a base number
+unfoldable pub baseByte : ℕ → ℕ
+baseByte n =
+    cond (eqb n 0) (byte "A")
+    (cond (eqb n 1) (byte "C")
+    (cond (eqb n 2) (byte "G") (byte "T")))
+
+-- A and T, C and G are exchanged; every other byte stays
+unfoldable pub complementOf : ℕ → ℕ
+complementOf b =
+    cond (eqb b (byte "A")) (byte "T")
+    (cond (eqb b (byte "T")) (byte "A")
+    (cond (eqb b (byte "C")) (byte "G")
+    (cond (eqb b (byte "G")) (byte "C") b)))

@@ -1,0 +1,82 @@
+// A codon with one base replaced, and its letter.
+use crate::Codon;
+use crate::bases::base_number;
+use crate::table::CodonIndex;
+use crate::table::codon_to_index;
+use crate::table::translate_codon;
+ghost use mathlib.Core.Path.{_≡_};
+ghost use Prim.Native.Nat.{_+_, _*_, _<_};
+ghost use Rattle.codon.specs.Altered.{alteredLetter};
+ghost use Rattle.codon.specs.Table.{standardTable, translateCodon, buildAltCodon};
+
+// The letter of each codon with each place replaced by each base: entry 12 * codon + 4 * place + base.
+const ALTERED_LETTERS: [u8; 768] = *b"\
+KQE*KTRIKNKNNHDYNTSIKNKNKQE*KTRMKNKNNHDYNTSIKNKN\
+TPASKTRITTTTTPASNTSITTTTTPASKTRMTTTTTPASNTSITTTT\
+RRG*KTRIRSRSSRGCNTSIRSRSRRGWKTRMRSRSSRGCNTSIRSRS\
+ILVLKTRIIIMIILVFNTSIIIMIMLVLKTRMIIMIILVFNTSIIIMI\
+KQE*QPRLQHQHNHDYHPRLQHQHKQE*QPRLQHQHNHDYHPRLQHQH\
+TPASQPRLPPPPTPASHPRLPPPPTPASQPRLPPPPTPASHPRLPPPP\
+RRG*QPRLRRRRSRGCHPRLRRRRRRGWQPRLRRRRSRGCHPRLRRRR\
+ILVLQPRLLLLLILVFHPRLLLLLMLVLQPRLLLLLILVFHPRLLLLL\
+KQE*EAGVEDEDNHDYDAGVEDEDKQE*EAGVEDEDNHDYDAGVEDED\
+TPASEAGVAAAATPASDAGVAAAATPASEAGVAAAATPASDAGVAAAA\
+RRG*EAGVGGGGSRGCDAGVGGGGRRGWEAGVGGGGSRGCDAGVGGGG\
+ILVLEAGVVVVVILVFDAGVVVVVMLVLEAGVVVVVILVFDAGVVVVV\
+KQE**S*L*Y*YNHDYYSCF*Y*YKQE**SWL*Y*YNHDYYSCF*Y*Y\
+TPAS*S*LSSSSTPASYSCFSSSSTPAS*SWLSSSSTPASYSCFSSSS\
+RRG**S*L*CWCSRGCYSCF*CWCRRGW*SWL*CWCSRGCYSCF*CWC\
+ILVL*S*LLFLFILVFYSCFLFLFMLVL*SWLLFLFILVFYSCFLFLF";
+
+// The codon with the base at a place, 0 to 2, replaced; at another place none is.
+pub fn build_alt_codon(c: Codon, place: u8, b: u8) -> Codon
+    ensures { λ r. ⌜ r ≡ buildAltCodon c place b ⌝ }
+{
+    match place {
+        0 => Codon {
+            len: c.len,
+            first: b,
+            second: c.second,
+            third: c.third,
+        },
+        1 => Codon {
+            len: c.len,
+            first: c.first,
+            second: b,
+            third: c.third,
+        },
+        2 => Codon {
+            len: c.len,
+            first: c.first,
+            second: c.second,
+            third: b,
+        },
+        _ => c,
+    }
+}
+
+// The entry of a codon's place, a place in the codon and a base number.
+fn altered_letter(codon: u8, place: u8, base: u8) -> u8
+    requires { ⌜ (codon < 64) × (place < 3) × (base < 4) ⌝ }
+    ensures { λ r. ⌜ r ≡ alteredLetter standardTable (codon * 12 + place * 4 + base) ⌝ }
+{
+    ALTERED_LETTERS[codon as usize * 12 + place as usize * 4 + base as usize]
+}
+
+// The letter of the codon with the base at a place replaced, read from the table of altered letters.
+pub fn translate_altered_codon(c: Codon, place: u8, b: u8) -> u8
+    ensures { λ r. ⌜ r ≡ translateCodon standardTable (buildAltCodon c place b) ⌝ }
+{
+    if place > 2 {
+        return translate_codon(c);
+    }
+    // The base that stood at the place does not matter: A stands for it.
+    let CodonIndex::Numbered(n) = codon_to_index(build_alt_codon(c, place, b'A')) else {
+        return b'X';
+    };
+    let k = base_number(b);
+    if k > 3 {
+        return b'X';
+    }
+    altered_letter(n, place, k)
+}

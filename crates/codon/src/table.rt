@@ -1,0 +1,69 @@
+// The genetic code: the letter of a codon.
+use crate::Codon;
+use crate::bases::base_number;
+ghost use mathlib.Core.Path.{_≡_};
+ghost use Rattle.codon.specs.Table.{standardTable, codonToIndex, translateCodon, isTga, translateReferenceCodon};
+
+// The place of a codon in a code table, 0 to 63.
+pub(crate) enum CodonIndex {
+    Numbered(u8),
+    NoCodon,
+}
+
+// NCBI table 1: the letter of the codon 16 * first + 4 * second + third.
+const STANDARD_TABLE: [u8; 64] = *b"\
+KNKNTTTTRSRSIIMI\
+QHQHPPPPRRRRLLLL\
+EDEDAAAAGGGGVVVV\
+*Y*YSSSS*CWCLFLF";
+
+// The place of a codon in the table, none where a byte is not A, C, G or T.
+pub(crate) fn codon_to_index(c: Codon) -> CodonIndex
+    ensures { λ r. ⌜ r ≡ codonToIndex c ⌝ }
+{
+    let x = base_number(c.first);
+    if x > 3 {
+        return CodonIndex::NoCodon;
+    }
+    let y = base_number(c.second);
+    if y > 3 {
+        return CodonIndex::NoCodon;
+    }
+    let z = base_number(c.third);
+    if z > 3 {
+        return CodonIndex::NoCodon;
+    }
+    CodonIndex::Numbered(x * 16 + y * 4 + z)
+}
+
+// The letter of a codon, X where a byte is not A, C, G or T.
+pub fn translate_codon(c: Codon) -> u8
+    ensures { λ r. ⌜ r ≡ translateCodon standardTable c ⌝ }
+{
+    let CodonIndex::Numbered(n) = codon_to_index(c) else {
+        return b'X';
+    };
+    STANDARD_TABLE[n as usize]
+}
+
+fn is_tga(c: Codon) -> bool
+    ensures { λ r. ⌜ r ≡ isTga c ⌝ }
+{
+    if c.first != b'T' {
+        return false;
+    }
+    if c.second != b'G' {
+        return false;
+    }
+    c.third == b'A'
+}
+
+// A reference TGA that holds a selenocysteine base reads U.
+pub fn translate_reference_codon(selenocysteine: bool, c: Codon) -> u8
+    ensures { λ r. ⌜ r ≡ translateReferenceCodon standardTable selenocysteine c ⌝ }
+{
+    if is_tga(c) && selenocysteine {
+        return b'U';
+    }
+    translate_codon(c)
+}

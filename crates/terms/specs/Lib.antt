@@ -1,0 +1,4 @@
+pub mod Severity
+pub mod Names
+pub mod Terms
+pub mod Coding
