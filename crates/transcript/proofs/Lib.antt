@@ -1,0 +1,17 @@
+pub mod Orient
+pub mod Ascends
+pub mod Cuts
+pub mod Cutting
+pub mod Facts
+pub mod Admitted
+pub mod Between
+pub mod Listed
+pub mod Steps
+pub mod CutSteps
+pub mod Phases
+pub mod Matched
+pub mod LentSegments
+pub mod LentAdmission
+pub mod CdsFault
+pub mod LentFacts
+pub mod Asking

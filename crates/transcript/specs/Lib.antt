@@ -1,0 +1,11 @@
+pub mod Limits
+pub mod Transcript
+pub mod Orient
+pub mod Bases
+pub mod Cuts
+pub mod Admission
+pub mod Numbers
+pub mod Question
+pub mod Lent
+pub mod Refused
+pub mod Pads
