@@ -1,0 +1,6 @@
+pub mod GapList
+pub mod Endpoints
+pub mod Spills
+pub mod Flanking
+pub mod Asked
+pub mod Numbered

@@ -1,0 +1,86 @@
+// Where an interval lies beside a transcript, in oriented coordinates.
+use super::Flank;
+use super::Flanked;
+use super::question::admit_interval;
+use super::span::Span;
+use super::span::span_of;
+use transcript::Admission;
+use transcript::TranscriptModel;
+use transcript::question::refusal_number;
+ghost use mathlib.Core.Path.{_≡_};
+ghost use Prim.Native.Nat.{_<_};
+ghost use Rattle.transcript.specs.Transcript.{lent};
+ghost use Rattle.footprint.specs.Ranges.{sourceRanges};
+ghost use Rattle.footprint.specs.Lent.{spanOf};
+ghost use Rattle.footprint.specs.Flank.{flankDistance, flankOf};
+ghost use Rattle.footprint.specs.Question.{flank};
+
+// The bases of flank.
+const FLANK: u64 = 5000;
+
+// The distance of an insertion or of some bases, with this number of bases between.
+pub(crate) fn flank_distance(q: Span, bases: u64) -> u64
+    requires { ⌜ bases < 5000 ⌝ }
+    ensures { λ r. ⌜ r ≡ flankDistance (spanOf q) bases ⌝ }
+{
+    if q.start == q.end { bases } else { bases + 1 }
+}
+
+// Where q lies beside x.
+pub(crate) fn flank_of(x: Span, q: Span) -> Flank
+    ensures { λ r. ⌜ r ≡ flankOf sourceRanges (spanOf x) (spanOf q) ⌝ }
+{
+    if q.end <= x.start {
+        let bases = x.start - q.end;
+        if FLANK <= bases {
+            return Flank::Far;
+        }
+        return Flank::Upstream(flank_distance(q, bases));
+    }
+    if q.start < x.end {
+        return Flank::Overlaps;
+    }
+    let bases = q.start - x.end;
+    if FLANK <= bases {
+        return Flank::Far;
+    }
+    Flank::Downstream(flank_distance(q, bases))
+}
+
+// Where [start, end) lies beside the transcript, from the bounds of both.
+pub fn classify_flank(
+    chromosome: u16,
+    start: u64,
+    end: u64,
+    model: TranscriptModel,
+    exon_starts: &[u64],
+    exon_ends: &[u64],
+    seg_phases: &[u8],
+    seg_exons: &[u16],
+    seg_starts: &[u64],
+    seg_ends: &[u64],
+    selenocysteine: &[u64],
+) -> Flanked
+    ensures { λ r. ⌜ r ≡ flank sourceRanges (lent model (now («exon_starts» .entry)) (now («exon_ends» .entry)) (now («seg_phases» .entry)) (now («seg_exons» .entry)) (now («seg_starts» .entry)) (now («seg_ends» .entry)) (now (selenocysteine .entry))) chromosome start end ⌝ }
+{
+    let admitted = admit_interval(
+        chromosome,
+        start,
+        end,
+        model,
+        exon_starts,
+        exon_ends,
+        seg_phases,
+        seg_exons,
+        seg_starts,
+        seg_ends,
+        selenocysteine,
+    );
+    let Admission::Admitted = admitted else {
+        return Flanked::Refused(refusal_number(admitted));
+    };
+    let strand = model.strand;
+    let x = span_of(strand, model.tx_start, model.tx_end);
+    let q = span_of(strand, start, end);
+    Flanked::Beside(flank_of(x, q))
+}

@@ -1,0 +1,45 @@
+// Questions about a footprint, an interval that may be empty: where it lies beside a transcript, whether an end of it lies in a
+// short intron, and whether the splice windows of a short intron reach it.
+mod beside;
+mod ends;
+mod gaps;
+mod question;
+mod span;
+mod windows;
+
+pub use beside::classify_flank;
+pub use ends::frameshift_intron_endpoint;
+pub use gaps::has_frameshift_intron;
+pub use windows::exonic_splice_spill;
+pub use windows::spill_of;
+
+// Where a footprint lies beside a transcript, with its distance.
+pub enum Flank {
+    Overlaps,
+    Upstream(u64),
+    Downstream(u64),
+    Far,
+}
+
+// Which splice windows of short introns a footprint beside these introns hits.
+pub struct SpliceSpill {
+    pub donor: bool,
+    pub acceptor: bool,
+}
+
+// The answers: what was asked for, or the number of the refusal.
+pub enum Flanked {
+    Beside(Flank),
+    Refused(u8),
+}
+
+pub enum Endpoint {
+    Intron(u16),
+    Nowhere,
+    Refused(u8),
+}
+
+pub enum Spilled {
+    Spill(SpliceSpill),
+    Refused(u8),
+}
