@@ -1,0 +1,126 @@
+-- Offsets and positions read from the index: a cumulative length and a place in its interval.
+-- Assumes nothing.
+use Prim.Native.Nat.{ℕ, zero, suc, _+_, _-_, _≤_, _<_}
+use mathlib.Core.Path.{_≡_, sym, _∙_, ap}
+use mathlib.Core.Bool.{true, _&&_}
+use mathlib.Core.List.{List, [], _∷_, map}
+use native.Mathlib.Omega.{arith}
+use lib.ListN.{length, getD, length-map}
+use lib.Dec.{ltb}
+use borrow.Author.Tests.{lt-ltb, le-ltb, ltb-true}
+use Rattle.common.proofs.TestParts.{on-test, and-true}
+use Rattle.transcript.specs.Limits.{top}
+use Rattle.transcript.specs.Transcript.{Transcript}
+use Rattle.transcript.specs.Orient.{Interval, Oriented, oriented}
+use Rattle.transcript.specs.Bases.{inside, insideAny, size, basesIn, totalSize, lastEnd}
+use Rattle.transcript.specs.Cuts.{Cut, cutOf, meet, cuts}
+use Rattle.locate.specs.Place.{intervalIndex, cdsOffset, cdnaPosition}
+use Rattle.locate.specs.Index.{cumulative, filled, indexScalars}
+use Rattle.locate.specs.Sums.{firstSum, Sums}
+use Rattle.transcript.proofs.Ascends.{Ascends}
+use Rattle.transcript.proofs.Cuts.{segmentsFrom, cuts-some}
+use Rattle.transcript.proofs.Orient.{inside-start, inside-end}
+use Rattle.transcript.proofs.Facts.{Facts}
+use Rattle.locate.proofs.Cdna.{coding-in-cds, cdna-of-offset}
+use Rattle.locate.proofs.Coding.{segments-inside}
+use Rattle.transcript.proofs.Listed.{nowhere}
+use Rattle.locate.proofs.Sums.{bases-le, sizes-le, sum-before, starts-from}
+use Rattle.locate.proofs.PrefixSums.{cumulative-first, cumulative-le, cumulative-last, filled-at}
+
+-- the array of an index has the cumulative lengths that start from its first element
+pub first-sum : (first : ℕ) (ns : List ℕ) → firstSum (filled 513 (cumulative first ns)) ≡ first
+first-sum first ns = filled-at first ns 0 (omega arith) ∙ cumulative-first first ns
+
+pub sums-of : (first : ℕ) (xs : List Interval) → first ≤ 2 → Sums xs (filled 513 (cumulative first (map size xs)))
+sums-of first xs l =
+    let e = first-sum first (map size xs) in
+    record { are = ap (λ (n : ℕ). filled 513 (cumulative n (map size xs))) (sym e); low = omega arith }
+
+module _ (xs : List Interval) (sums : List ℕ) (h : Ascends 0 xs) (s : Sums xs sums) where
+  sum-at : (k : ℕ) → k ≤ length xs → getD sums k 0 ≡ getD (cumulative (firstSum sums) (map size xs)) k 0
+  sum-at k l =
+      let n = length-map xs size in
+      ap (λ (l : List ℕ). getD l k 0) (s .are) ∙ filled-at (firstSum sums) (map size xs) k (omega arith)
+
+  -- a base of interval k: what the array has at k and the place in the interval are the bases before it
+  pub read-sum : (k p : ℕ) → k < length xs → getD xs k nowhere .start ≤ p → p < getD xs k nowhere .end
+      → getD sums k 0 + (p - getD xs k nowhere .start) ≡ firstSum sums + basesIn xs 0 p
+  read-sum k p l a b = ap (λ (c : ℕ). c + (p - getD xs k nowhere .start)) (sum-at k (omega arith)) ∙ sum-before xs 0 (firstSum sums) k p h l a b
+
+  -- what is read can be added to
+  pub sum-low : lastEnd xs ≤ top → (k : ℕ) → k ≤ length xs → getD sums k 0 ≤ 2 + top
+  sum-low e k l =
+      let n = length-map xs size in
+      let a = sum-at k l in
+      let b = cumulative-le (firstSum sums) (map size xs) k (omega arith) in
+      let c = sizes-le xs 0 h in
+      let d = s .low in
+      omega arith
+
+  -- the last of them is the whole
+  pub sum-last : getD sums (length xs) 0 ≡ firstSum sums + totalSize xs
+  sum-last =
+      let n = length-map xs size in
+      sum-at (length xs) (omega arith) ∙ ap (λ (k : ℕ). getD (cumulative (firstSum sums) (map size xs)) k 0) (sym n) ∙ cumulative-last (firstSum sums) (map size xs)
+
+-- the cDNA position of a coding base, from the index and its padded offset; what the code needs to subtract and to add
+pub record CdnaOf (o : Oriented) (p : ℕ) : Type 0 where
+  pub padded : o .pad ≤ cdsOffset o p
+  pub fits : indexScalars o .«utr5_exonic_len» + (cdsOffset o p - o .pad) ≤ top
+  pub is : indexScalars o .«utr5_exonic_len» + (cdsOffset o p - o .pad) + 1 ≡ cdnaPosition o p
+
+pub index-cdna : (t : Transcript) → Facts t → (p : ℕ) → insideAny p (oriented t .segments) ≡ true → CdnaOf (oriented t) p
+index-cdna t f p h =
+    let i = coding-in-cds t f p h in
+    let c = and-true (oriented t .coding) (inside p (oriented t .cds)) (and-true (oriented t .coding && inside p (oriented t .cds)) (insideAny p (oriented t .exons)) (sym (segments-inside t f p) ∙ h) .0) .0 in
+    let q = cdna-of-offset t f p h in
+    let l = bases-le (oriented t .exons) 0 p (f .order) in
+    let e = inside-end p (oriented t .cds) i in
+    let u = f .cds-high in
+    record { padded = omega arith; fits = rw c (omega arith); is = rw c (sym q) }
+
+-- where the CDS has begun, exon i of a coding base has segment i: no exon up to it is without coding bases
+dense : (cds : Interval) (e m : ℕ) (xs : List Interval) (i p : ℕ) → Ascends e xs → cds .start ≤ e → i < length xs
+    → getD xs i nowhere .start ≤ p → p < getD xs i nowhere .end → p < cds .end → intervalIndex (segmentsFrom cds m xs) p ≡ i
+unfolding intervalIndex
+dense cds e m [] i p h s l a b c = absurd (omega arith)
+dense cds e m (x ∷ xs) zero p h s l a b c =
+    let f = h .0 in
+    rw (cuts-some cds m x xs (omega arith), lt-ltb p (meet x cds .end) (omega arith))
+dense cds e m (x ∷ xs) (suc i) p h s l a b c =
+    let f = h .0 in
+    let g = h .1 in
+    let k = starts-from xs (x .end) i (h .2) (omega arith) in
+    rw (cuts-some cds m x xs (omega arith), le-ltb p (meet x cds .end) (omega arith)) (ap suc (dense cds (x .end) (suc m) xs i p (h .2) (omega arith) (omega arith) a b c))
+
+-- the exon index of the first cut
+abbrev pub firstIndex : List Cut → ℕ
+firstIndex [] = 0
+firstIndex (c ∷ cs) = c .index
+
+-- the segment of a coding base of exon i: i less the exon index of the first segment
+pub cut-index : (cds : Interval) (e m : ℕ) (xs : List Interval) (i p : ℕ) → Ascends e xs → i < length xs
+    → getD xs i nowhere .start ≤ p → p < getD xs i nowhere .end → cds .start ≤ p → p < cds .end → intervalIndex (segmentsFrom cds m xs) p + firstIndex (cuts cds m xs) ≡ m + i
+unfolding intervalIndex cuts
+cut-index cds e m [] i p h l a b s c = absurd (omega arith)
+cut-index cds e m (x ∷ xs) zero p h l a b s c = rw (lt-ltb (meet x cds .start) (meet x cds .end) (omega arith), lt-ltb p (meet x cds .end) (omega arith)) (omega arith)
+cut-index cds e m (x ∷ xs) (suc i) p h l a b s c =
+    let g = h .1 in
+    let k = starts-from xs (x .end) i (h .2) (omega arith) in
+    on-test (ltb (meet x cds .start) (meet x cds .end))
+    (λ t. (let u = ltb-true (meet x cds .start) (meet x cds .end) t in
+    let d = dense cds (x .end) (suc m) xs i p (h .2) (omega arith) (omega arith) a b c in
+    rw (t, le-ltb p (meet x cds .end) (omega arith), d) (omega arith)))
+    (λ t. (let d = cut-index cds (x .end) (suc m) xs i p (h .2) (omega arith) a b s c in rw t (d ∙ next m i)))
+  where
+    next : (m i : ℕ) → suc m + i ≡ m + suc i
+    next m i = omega arith
+
+pub segment-of-exon : (t : Transcript) → Facts t → (i p : ℕ) → i < length (oriented t .exons)
+    → getD (oriented t .exons) i nowhere .start ≤ p → p < getD (oriented t .exons) i nowhere .end → inside p (oriented t .cds) ≡ true
+    → intervalIndex (oriented t .segments) p + firstIndex (map (cutOf (t .model .strand)) (t .segments)) ≡ i
+segment-of-exon t f i p l a b c =
+    let d = cut-index (oriented t .cds) 0 0 (oriented t .exons) i p (f .order) l a b (inside-start p (oriented t .cds) c) (inside-end p (oriented t .cds) c) in
+    let s = ap (λ (gs : List Interval). intervalIndex gs p) (f .segments) in
+    let g = ap firstIndex (f .cut) in
+    omega arith

@@ -1,0 +1,95 @@
+-- `locate::variant::locate_variant` meets its contract.
+-- Assumes nothing.
+use Prim.Native.Nat.{ℕ}
+use mathlib.Core.Path.{_≡_, sym, _∙_, ap}
+use mathlib.Core.List.{List}
+use native.Mathlib.Omega.{arith}
+use denote.Ref.{now}
+use Rattle.transcript.specs.declared.TranscriptModel.{TranscriptModel}
+use Rattle.transcript.specs.Transcript.{lent}
+use Rattle.transcript.specs.Orient.{oriented}
+use Rattle.transcript.specs.Admission.{admission}
+use Rattle.footprint.specs.Ranges.{sourceRanges}
+use Rattle.locate.specs.declared.Located.{Located}
+use Rattle.locate.specs.declared.LocateIndex.{LocateIndex}
+use Rattle.locate.specs.Place.{locate}
+use Rattle.transcript.proofs.Asking.{base-low, start-within, refused-some, number-is, admitted-is}
+use Rattle.locate.proofs.VariantCases.{is-refused, is-15, is-14, is-at}
+use borrow.Author.Needs.{needs}
+use Rattle.locate.proofs.variant.locate_variant.Statement.{statement}
+use Rattle.locate.proofs.variant.locate_variant.Tie as tie
+
+-- a law about the transcript's parts, at them
+abbrev on : (b : tie.Start) → {P : TranscriptModel → List ℕ → List ℕ → List ℕ → List ℕ → List ℕ → List ℕ → List ℕ → Type 0}
+    → ((m : TranscriptModel) (ss es ps is gs ge bs : List ℕ) → P m ss es ps is gs ge bs)
+    → P (b .args .model) (now (b .args .exon-starts)) (now (b .args .exon-ends)) (now (b .args .seg-phases)) (now (b .args .seg-exons)) (now (b .args .seg-starts)) (now (b .args .seg-ends)) (now (b .args .selenocysteine))
+on b f = f (b .args .model) (now (b .args .exon-starts)) (now (b .args .exon-ends)) (now (b .args .seg-phases)) (now (b .args .seg-exons)) (now (b .args .seg-starts)) (now (b .args .seg-ends)) (now (b .args .selenocysteine))
+
+-- past the `let else` the transcript is admitted
+admitted : (c : tie.After-enum-told) → admission (on (c .before .before .before .before .before .before .before .before .before .before) lent) ≡ 0
+admitted c = admitted-is (on (c .before .before .before .before .before .before .before .before .before .before) lent) (c .before .before .admit .result) (c .before .before .admit .ensures) (c .enum-told .given .1)
+
+admit-requires : tie.Need-admit-requires
+admit-requires c κs = search needs
+
+enum-told : tie.Need-enum-told
+enum-told c = search needs
+
+enum-told-2 : tie.Need-enum-told-2
+enum-told-2 c = search needs
+
+refusal-number-requires : tie.Need-refusal-number-requires
+refusal-number-requires c κs = search needs
+
+returns : tie.Need-returns
+returns c =
+    let b = c .before .before .before .before .before .before .before .before .before .before .before in
+    let a = c .before .before .before .admit in
+    let l = refused-some (on b lent) (a .result) (a .ensures) _ (c .before .enum-told2 .given .1) in
+    let e = c .refusal-number .ensures ∙ number-is (on b lent) (a .result) (a .ensures) in
+    is-refused (on b lent) (b .args .chromosome) (b .args .start) (b .args .end) (c .refusal-number .result) (omega arith) e
+
+bad-place-requires : tie.Need-bad-place-requires
+bad-place-requires c κs = search needs
+
+returns-2 : tie.Need-returns-2
+returns-2 c = let b = c .before .before .before .before .before .before .before .before .before .before .before .before in is-15 (on b lent) (b .args .chromosome) (b .args .start) (b .args .end) (admitted (c .before .before)) (sym (c .before .bad-place .ensures) ∙ c .if1 .taken)
+
+returns-3 : tie.Need-returns-3
+returns-3 c = let b = c .before .before .before .before .before .before .before .before .before .before .before .before .before .before in is-14 (on b lent) (b .args .chromosome) (b .args .start) (b .args .end) (admitted (c .before .before .before .before)) (sym (c .before .before .before .bad-place .ensures) ∙ c .before .before .if1 .left) (c .if2 .taken)
+
+index-of-requires : tie.Need-index-of-requires
+index-of-requires c κs = admitted (c .before .before .before .before)
+
+base-of-requires : tie.Need-base-of-requires
+base-of-requires c κs = let b = c .before .before .before .before .before .before .before .before .before .before .before .before .before .before .before .before .before in start-within (b .args .start) (b .args .end) (sym (c .before .before .before .before .before .before .bad-place .ensures) ∙ c .before .before .before .before .before .if1 .left)
+
+place-of-base-requires : tie.Need-place-of-base-requires
+place-of-base-requires c κs =
+    let b = c .before .before .before .before .before .before .before .before .before .before .before .before .before .before .before .before .before .before .before in
+    let i = c .before .before .before .before .index-of .ensures in
+    (admitted (c .before .before .before .before .before .before .before .before .before), ((ap (λ (x : LocateIndex). x .scalars) i, ap (λ (x : LocateIndex). x .«cumulative_exons») i),
+    rw (c .before .base-of .ensures) (base-low (b .args .model .strand) (b .args .start) (start-within (b .args .start) (b .args .end) (sym (c .before .before .before .before .before .before .before .before .bad-place .ensures) ∙ c .before .before .before .before .before .before .before .if1 .left)))))
+
+returns-4 : tie.Need-returns-4
+returns-4 c =
+    let b = c .before .before .before .before .before .before .before .before .before .before .before .before .before .before .before .before .before .before .before .before in
+    ap Located.At (c .place-of-base .ensures ∙ ap (locate sourceRanges (oriented (on b lent))) (c .before .before .base-of .ensures))
+    ∙ is-at (on b lent) (b .args .chromosome) (b .args .start) (b .args .end) (admitted (c .before .before .before .before .before .before .before .before .before .before)) (sym (c .before .before .before .before .before .before .before .before .before .bad-place .ensures) ∙ c .before .before .before .before .before .before .before .before .if1 .left) (c .before .before .before .before .before .before .if2 .left)
+
+pub locate-variant-spec : {M : Type 1} → statement M
+locate-variant-spec =
+    tie.close
+    (tie.spec
+    admit-requires
+    enum-told
+    enum-told-2
+    refusal-number-requires
+    returns
+    bad-place-requires
+    returns-2
+    returns-3
+    index-of-requires
+    base-of-requires
+    place-of-base-requires
+    returns-4)

@@ -1,0 +1,12 @@
+pub mod Find
+pub mod Intronic
+pub mod Place
+pub mod PlaceKind
+pub mod Index
+pub mod Query
+pub mod Numbers
+pub mod Marked
+pub mod Search
+pub mod Sums
+pub mod Coded
+pub mod Exonic

@@ -1,0 +1,80 @@
+// The question of a place: its refusals, then the place of its first base.
+use transcript::Admission;
+use super::Located;
+use super::index::index_of;
+use transcript::TranscriptModel;
+use transcript::admit;
+use super::place::place_of_base;
+use transcript::question::bad_place;
+use transcript::question::base_of;
+use transcript::question::refusal_number;
+ghost use mathlib.Core.Path.{_≡_};
+ghost use Prim.Native.Nat.{_-_};
+ghost use Rattle.footprint.specs.Ranges.{sourceRanges};
+ghost use Rattle.transcript.specs.Transcript.{lent};
+ghost use Rattle.locate.specs.Query.{locateVariant};
+
+// The place of the base at `start`, or the number of the refusal.
+pub fn locate_variant(
+    chromosome: u16,
+    start: u64,
+    end: u64,
+    model: TranscriptModel,
+    exon_starts: &[u64],
+    exon_ends: &[u64],
+    seg_phases: &[u8],
+    seg_exons: &[u16],
+    seg_starts: &[u64],
+    seg_ends: &[u64],
+    selenocysteine: &[u64],
+) -> Located
+    ensures { λ r. ⌜ r ≡ locateVariant sourceRanges (lent model (now («exon_starts» .entry)) (now («exon_ends» .entry)) (now («seg_phases» .entry)) (now («seg_exons» .entry)) (now («seg_starts» .entry)) (now («seg_ends» .entry)) (now (selenocysteine .entry))) chromosome start end ⌝ }
+{
+    let admitted = admit(
+        model,
+        exon_starts,
+        exon_ends,
+        seg_phases,
+        seg_exons,
+        seg_starts,
+        seg_ends,
+        selenocysteine,
+    );
+    let Admission::Admitted = admitted else {
+        return Located::Refused(refusal_number(admitted));
+    };
+    if bad_place(start, end) {
+        return Located::Refused(15);
+    }
+    if chromosome != model.chromosome {
+        return Located::Refused(14);
+    }
+    let index = index_of(
+        model,
+        exon_starts,
+        exon_ends,
+        seg_phases,
+        seg_exons,
+        seg_starts,
+        seg_ends,
+        selenocysteine,
+    );
+    let scalars = index.scalars;
+    let cumulative_exons = index.cumulative_exons;
+    let strand = model.strand;
+    let p = base_of(strand, start);
+    let place = place_of_base(
+        model,
+        exon_starts,
+        exon_ends,
+        seg_phases,
+        seg_exons,
+        seg_starts,
+        seg_ends,
+        selenocysteine,
+        scalars,
+        &cumulative_exons,
+        p,
+    );
+    Located::At(place)
+}
