@@ -1,0 +1,82 @@
+-- What is claimed of the definitions: where coding bases are, what an offset counts, and what a longer transcript keeps.
+use Prim.Native.Nat.{ℕ, _+_, _-_, _≤_}
+use mathlib.Core.Bool.{Bool, true, _&&_}
+use mathlib.Core.List.{List}
+use mathlib.Core.Path.{_≡_}
+use lib.ListN.{length}
+use lib.Dec.{leb, ltb}
+use Rattle.common.specs.Lists.{any, countBelow}
+use Rattle.transcript.specs.declared.Strand.{Strand}
+use Rattle.transcript.specs.declared.Strand.the-variants.{Plus, Minus}
+use Rattle.transcript.specs.declared.CdsSegment.{CdsSegment}
+use Rattle.locate.specs.declared.VariantLocation.{VariantLocation}
+use Rattle.locate.specs.declared.Located.{Located}
+use Rattle.footprint.specs.Ranges.{Ranges}
+use Rattle.transcript.specs.Limits.{coordinateLimit}
+use Rattle.transcript.specs.Transcript.{Transcript, padOf}
+use Rattle.transcript.specs.Orient.{orientBase, oriented}
+use Rattle.transcript.specs.Bases.{firstStart, lastEnd, totalSize}
+use Rattle.transcript.specs.Admission.{Admitted}
+use Rattle.locate.specs.PlaceKind.{isCdsExon, placeOffset}
+use Rattle.locate.specs.Query.{locateVariant, locatePosition}
+use Rattle.consequence.specs.Window.{Window}
+use Rattle.consequence.specs.Call.{annotateSnv}
+use Rattle.demands.specs.Longer.{Longer, insideTranscript, nearEnds}
+use Rattle.demands.specs.Carry.{Added, carryLocated, carryCalled}
+
+-- some segment holds the base, in genomic coordinates
+abbrev pub isCoding : List CdsSegment → ℕ → Bool
+isCoding gs p = any (λ (g : CdsSegment). leb (g .«genomic_start») p && ltb p (g .«genomic_end»)) gs
+
+-- q comes before p in strand order
+abbrev pub isBefore : Strand → ℕ → ℕ → Bool
+isBefore Plus p q = ltb q p
+isBefore Minus p q = ltb p q
+
+-- demand 2: a place is CdsExon exactly where a segment holds the base
+abbrev pub CodingPlaces : Type 0
+CodingPlaces =
+    (r : Ranges) (t : Transcript) (chromosome p : ℕ) (place : VariantLocation) →
+    locatePosition r t chromosome p ≡ Located.At place →
+    isCdsExon place ≡ isCoding (t .segments) p
+
+-- demand 2: the padded offset is the pad and the number of coding bases before the base in strand order
+abbrev pub OffsetsCount : Type 0
+OffsetsCount =
+    (r : Ranges) (t : Transcript) (chromosome p n : ℕ) (place : VariantLocation) →
+    locatePosition r t chromosome p ≡ Located.At place →
+    isCdsExon place ≡ true →
+    coordinateLimit ≤ n →
+    placeOffset place ≡ padOf (t .segments) + countBelow (λ q. isBefore (t .model .strand) p q && isCoding (t .segments) q) n
+
+module _ (S L : Transcript) (x : Longer S L) (p : ℕ) where
+  -- the mark is gained within 3 bases of an outer end of the longer's inner exons, beyond which an exon was added
+  abbrev pub gained : Bool
+  gained = nearEnds (x .before) (x .after) (x .begin) (x .finish) (orientBase (S .model .strand) p)
+
+  -- what the longer adds, seen from base p
+  abbrev pub added : Added
+  added = record {
+    exons5 = length (x .before);
+    bases5 = totalSize (x .before) + (firstStart (oriented S .exons) - x .begin);
+    exons = length (x .before) + length (x .after);
+    mark = gained;
+  }
+
+  -- base p is within 3 bases of an outer end of the shorter, beyond which an exon was added
+  abbrev pub nearOuterEnd : Bool
+  nearOuterEnd = nearEnds (x .before) (x .after) (firstStart (oriented S .exons)) (lastEnd (oriented S .exons)) (orientBase (S .model .strand) p)
+
+-- the longer's two whole answers are the shorter's, carried; a mark is gained only near an outer end beyond which an exon was added
+pub record Kept (r : Ranges) (S L : Transcript) (x : Longer S L) (w : Window) (chromosome p e ref alt : ℕ) : Type 0 where
+  pub place : locateVariant r L chromosome p e ≡ carryLocated (added S L x p) (locateVariant r S chromosome p e)
+  pub call : annotateSnv r L w (record { chromosome = chromosome; position = p; «ref_base» = ref; «alt_base» = alt })
+      ≡ carryCalled (added S L x p) (annotateSnv r S w (record { chromosome = chromosome; position = p; «ref_base» = ref; «alt_base» = alt }))
+  pub near : gained S L x p ≡ true → nearOuterEnd S L x p ≡ true
+
+-- demand 3: every place question and call at a base inside the shorter, refused ones included, over one window and with all else the same
+abbrev pub LongerKeeps : Type 0
+LongerKeeps =
+    (r : Ranges) (S L : Transcript) (x : Longer S L) → Admitted S → Admitted L →
+    (w : Window) (chromosome p e ref alt : ℕ) → insideTranscript S p ≡ true →
+    Kept r S L x w chromosome p e ref alt
