@@ -48,3 +48,10 @@ module _ (c : Bool) (i gap d a : ℕ) where
   pub is-deep : 13 < gap → 8 < d → 17 < a → deepIntron c i (signedDistance d a) ≡ classifyDistances sourceRanges c i gap d a
   unfolding classifyDistances
   is-deep h l m = rw (lt-leb gap 13 h, lt-leb d 2 (omega arith), lt-leb a 2 (omega arith), lt-leb d 8 l, lt-leb a 17 m)
+
+-- the signed distance: the donor on a tie
+pub is-plus : (d a : ℕ) → d ≤ a → pos d ≡ signedDistance d a
+is-plus d a h = rw (le-leb d a h)
+
+pub is-minus : (d a : ℕ) → a < d → minus a ≡ signedDistance d a
+is-minus d a h = rw (lt-leb d a h)

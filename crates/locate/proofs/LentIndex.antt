@@ -150,8 +150,15 @@ module _ (m : TranscriptModel) (ss es ps is gs ge bs : List ℕ) (h : admission 
       → u ≡ cond (ltb 0 (length gs)) (firstSum xs + basesIn (lentExons (m .strand) ss es) 0 (orient (m .strand) (cdsStart (m .cds)) (cdsEnd (m .cds)) .start)) 0
       → f ≡ headOf is → l ≡ cond (ltb 0 (length gs)) (f + length gs - 1) 0 → s ≡ any isFrameshiftGap (gaps (lentExons (m .strand) ss es))
       → record {
-        «cds_start_pad» = getD ys 0 0; «exon_count» = length ss; «segment_count» = length gs; «total_cds_length» = getD ys (length gs) 0; «utr5_exonic_len» = u;
-        «cds_start_exon_idx» = f; «cds_end_exon_idx» = l; «has_frameshift_intron» = s; «selenocysteine_count» = length bs;
+        «cds_start_pad» = getD ys 0 0;
+        «exon_count» = length ss;
+        «segment_count» = length gs;
+        «total_cds_length» = getD ys (length gs) 0;
+        «utr5_exonic_len» = u;
+        «cds_start_exon_idx» = f;
+        «cds_end_exon_idx» = l;
+        «has_frameshift_intron» = s;
+        «selenocysteine_count» = length bs;
       } ≡ indexScalars o
   scalars-are xs ys qx qy u f l s eu ef el es′ =
       let t = lent m ss es ps is gs ge bs in
@@ -167,6 +174,13 @@ module _ (m : TranscriptModel) (ss es ps is gs ge bs : List ℕ) (h : admission 
       let y = es′ ∙ ap (λ (v : List Interval). any isFrameshiftGap (gaps v)) (sym (exons-are m ss es ps is gs ge bs h)) in
       let b = sym (length-map bs (orientBase (m .strand))) ∙ ap length (sym (bases-are m ss es ps is gs ge bs h)) in
       λ k. record {
-        «cds_start_pad» = p k; «exon_count» = n k; «segment_count» = g k; «total_cds_length» = d k; «utr5_exonic_len» = x k;
-        «cds_start_exon_idx» = a k; «cds_end_exon_idx» = z k; «has_frameshift_intron» = y k; «selenocysteine_count» = b k;
+        «cds_start_pad» = p k;
+        «exon_count» = n k;
+        «segment_count» = g k;
+        «total_cds_length» = d k;
+        «utr5_exonic_len» = x k;
+        «cds_start_exon_idx» = a k;
+        «cds_end_exon_idx» = z k;
+        «has_frameshift_intron» = y k;
+        «selenocysteine_count» = b k;
       }

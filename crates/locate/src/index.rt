@@ -1,9 +1,9 @@
 // The index of a transcript.
 use super::IndexScalars;
 use super::LocateIndex;
-use super::prefix_sums::cumulative_of;
 use super::exonic::first_index;
 use super::positions::utr5_length;
+use super::prefix_sums::cumulative_of;
 use super::selenocysteine::selenocysteine_codons;
 use footprint::has_frameshift_intron;
 use transcript::TranscriptModel;

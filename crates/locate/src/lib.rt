@@ -4,8 +4,8 @@ mod build;
 mod exonic;
 mod index;
 mod intronic;
-mod positions;
 pub mod place;
+mod positions;
 mod prefix_sums;
 mod search;
 mod selenocysteine;
@@ -13,8 +13,8 @@ mod variant;
 
 pub use index::index_of;
 pub use positions::cdna_position;
-pub use variant::locate_variant;
 use transcript::Admission;
+pub use variant::locate_variant;
 
 pub enum SpliceSide {
     Donor,

@@ -1,17 +1,17 @@
 // The place of a base in an admitted transcript, from its index.
 use super::ExonOrIntron;
 use super::IndexScalars;
-use transcript::TranscriptModel;
 use super::VariantLocation;
 use super::exonic::exonic_place;
 use super::exonic::is_exonic_splice_region;
 use super::intronic::classify_intronic;
 use super::positions::offset_at;
+use super::search::find_exon_or_intron;
+use transcript::TranscriptModel;
 use transcript::limits::end_or_zero;
 use transcript::limits::start_or_zero;
 use transcript::oriented::end_of;
 use transcript::oriented::start_of;
-use super::search::find_exon_or_intron;
 ghost use mathlib.Core.Path.{_≡_};
 ghost use Prim.Native.Nat.{_+_, _-_, _≤_, _<_};
 ghost use lib.ListN.{length};

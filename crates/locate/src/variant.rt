@@ -1,10 +1,10 @@
 // The question of a place: its refusals, then the place of its first base.
-use transcript::Admission;
 use super::Located;
 use super::index::index_of;
+use super::place::place_of_base;
+use transcript::Admission;
 use transcript::TranscriptModel;
 use transcript::admit;
-use super::place::place_of_base;
 use transcript::question::bad_place;
 use transcript::question::base_of;
 use transcript::question::refusal_number;

@@ -98,4 +98,3 @@ module _ (m : TranscriptModel) (ss es ps is gs ge bs : List ℕ) (h : admission 
 pub orient-low : (σ : Strand) (s e : ℕ) → s ≤ coordinateLimit → orient σ s e .start ≤ top
 orient-low Plus s e l = omega arith
 orient-low Minus s e l = omega arith
-

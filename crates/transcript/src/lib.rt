@@ -1,5 +1,5 @@
 // A transcript as it is handed in, and whether it is admitted. Coordinates are 0-based and half-open.
-pub mod coding;
+mod coding;
 pub mod limits;
 pub mod order;
 pub mod oriented;

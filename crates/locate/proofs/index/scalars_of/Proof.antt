@@ -57,9 +57,13 @@ cast-utr5-length c = search needs
 
 utr5-length-requires : tie.Need-utr5-length-requires
 utr5-length-requires c κs =
-    let b = c .before .before .before .before .before .before .before .before .before .before .before .before .before in
-    (on b ready (b .pre .0), (on b exonic (b .pre .0) (now (b .args .cumulative-exons)) (b .pre .1 .0),
-    on b first-holding (b .pre .0) (c .before .before .before .before .before .first-index .result) (c .before .before .start-of .result) (c .before .before .before .before .before .first-index .ensures) (from (c .before .before))))
+    let b = c .before .before .before .before .before .before .before .before .before .before .before .before .before in (
+      on b ready (b .pre .0),
+      (
+        on b exonic (b .pre .0) (now (b .args .cumulative-exons)) (b .pre .1 .0),
+        on b first-holding (b .pre .0) (c .before .before .before .before .before .first-index .result) (c .before .before .start-of .result) (c .before .before .before .before .before .first-index .ensures) (from (c .before .before)),
+      ),
+    )
 
 last-exon-requires : tie.Need-last-exon-requires
 last-exon-requires c κs =

@@ -49,9 +49,13 @@ offset-at-requires c κs =
     let f = b .pre .0 .few in
     let n = count (b .args .strand) (now (b .args .starts)) (now (b .args .ends)) (b .pre .0) in
     let e = end-at (b .args .strand) (now (b .args .starts)) (now (b .args .ends)) (b .pre .0) (c .before .found .given .0 .0) (omega arith) in
-    let u = end-top (b .args .strand) (now (b .args .starts)) (now (b .args .ends)) (b .pre .0) (c .before .found .given .0 .0) (omega arith) in
-    (omega arith, sum-low (lentExons (b .args .strand) (now (b .args .starts)) (now (b .args .ends))) (now (b .args .sums)) (ascends (b .args .strand) (now (b .args .starts)) (now (b .args .ends)) (b .pre .0)) (b .pre .1 .0)
-    (high (b .args .strand) (now (b .args .starts)) (now (b .args .ends)) (b .pre .0)) (c .before .found .given .0 .0) (omega arith), s, omega arith)
+    let u = end-top (b .args .strand) (now (b .args .starts)) (now (b .args .ends)) (b .pre .0) (c .before .found .given .0 .0) (omega arith) in (
+      omega arith,
+      sum-low (lentExons (b .args .strand) (now (b .args .starts)) (now (b .args .ends))) (now (b .args .sums)) (ascends (b .args .strand) (now (b .args .starts)) (now (b .args .ends)) (b .pre .0)) (b .pre .1 .0)
+          (high (b .args .strand) (now (b .args .starts)) (now (b .args .ends)) (b .pre .0)) (c .before .found .given .0 .0) (omega arith),
+      s,
+      omega arith,
+    )
 
 enum-known-found-2 : tie.Need-enum-known-found-2
 enum-known-found-2 c = search needs

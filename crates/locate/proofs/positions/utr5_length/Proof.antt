@@ -61,9 +61,13 @@ offset-at-requires c κs =
     let q = starts c in
     let n = count (b .args .strand) (now (b .args .starts)) (now (b .args .ends)) (b .pre .0) in
     let e = end-at (b .args .strand) (now (b .args .starts)) (now (b .args .ends)) (b .pre .0) (b .args .first) l in
-    let u = end-top (b .args .strand) (now (b .args .starts)) (now (b .args .ends)) (b .pre .0) (b .args .first) l in
-    (omega arith, sum-low (lentExons (b .args .strand) (now (b .args .starts)) (now (b .args .ends))) (now (b .args .sums)) (ascends (b .args .strand) (now (b .args .starts)) (now (b .args .ends)) (b .pre .0)) (b .pre .1 .0)
-    (high (b .args .strand) (now (b .args .starts)) (now (b .args .ends)) (b .pre .0)) (b .args .first) (omega arith), omega arith, omega arith)
+    let u = end-top (b .args .strand) (now (b .args .starts)) (now (b .args .ends)) (b .pre .0) (b .args .first) l in (
+      omega arith,
+      sum-low (lentExons (b .args .strand) (now (b .args .starts)) (now (b .args .ends))) (now (b .args .sums)) (ascends (b .args .strand) (now (b .args .starts)) (now (b .args .ends)) (b .pre .0)) (b .pre .1 .0)
+          (high (b .args .strand) (now (b .args .starts)) (now (b .args .ends)) (b .pre .0)) (b .args .first) (omega arith),
+      omega arith,
+      omega arith,
+    )
 
 returns-2 : tie.Need-returns-2
 returns-2 c =

@@ -67,9 +67,13 @@ base-of-requires c κs = let b = c .before .before .before .before .before .befo
 place-of-base-requires : tie.Need-place-of-base-requires
 place-of-base-requires c κs =
     let b = c .before .before .before .before .before .before .before .before .before .before .before .before .before .before .before .before .before .before .before in
-    let i = c .before .before .before .before .index-of .ensures in
-    (admitted (c .before .before .before .before .before .before .before .before .before), ((ap (λ (x : LocateIndex). x .scalars) i, ap (λ (x : LocateIndex). x .«cumulative_exons») i),
-    rw (c .before .base-of .ensures) (base-low (b .args .model .strand) (b .args .start) (start-within (b .args .start) (b .args .end) (sym (c .before .before .before .before .before .before .before .before .bad-place .ensures) ∙ c .before .before .before .before .before .before .before .if1 .left)))))
+    let i = c .before .before .before .before .index-of .ensures in (
+      admitted (c .before .before .before .before .before .before .before .before .before),
+      (
+        (ap (λ (x : LocateIndex). x .scalars) i, ap (λ (x : LocateIndex). x .«cumulative_exons») i),
+        rw (c .before .base-of .ensures) (base-low (b .args .model .strand) (b .args .start) (start-within (b .args .start) (b .args .end) (sym (c .before .before .before .before .before .before .before .before .bad-place .ensures) ∙ c .before .before .before .before .before .before .before .if1 .left))),
+      ),
+    )
 
 returns-4 : tie.Need-returns-4
 returns-4 c =

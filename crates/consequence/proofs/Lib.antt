@@ -1,0 +1,10 @@
+pub mod WindowFacts
+pub mod CodingBases
+pub mod CodonBases
+pub mod Selenocysteines
+pub mod Refusals
+pub mod Regions
+pub mod ExonBases
+pub mod Preparing
+pub mod Calling
+pub mod Numbering

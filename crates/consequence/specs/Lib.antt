@@ -1,0 +1,9 @@
+pub mod Window
+pub mod Reading
+pub mod Coding
+pub mod Answer
+pub mod Call
+pub mod Numbers
+pub mod Region
+pub mod Segments
+pub mod Prepared

@@ -1,0 +1,95 @@
+// The single-base call on an admitted transcript.
+use super::Call;
+use super::Called;
+use super::answer::add_splice_spill;
+use super::place::annotate_place;
+use super::refusal::opening_refusal;
+use super::spill::spill_at;
+use locate::IndexScalars;
+use locate::place::place_of_base;
+use transcript::TranscriptModel;
+use transcript::question::base_of;
+ghost use mathlib.Core.Path.{_≡_};
+ghost use Rattle.transcript.specs.Transcript.{lent};
+ghost use Rattle.footprint.specs.Ranges.{sourceRanges};
+ghost use Rattle.consequence.specs.Call.{annotateSnv};
+ghost use Rattle.consequence.specs.Prepared.{Prepared};
+
+// The answer from the transcript's index, or the number of the refusal: 15, 14, 20, 16, 17, 18, 19 and 21.
+pub fn annotate_admitted(
+    window_chromosome: u16,
+    window_first: u64,
+    window: &[u8],
+    call: Call,
+    model: TranscriptModel,
+    exon_starts: &[u64],
+    exon_ends: &[u64],
+    seg_phases: &[u8],
+    seg_exons: &[u16],
+    seg_starts: &[u64],
+    seg_ends: &[u64],
+    selenocysteine: &[u64],
+    scalars: IndexScalars,
+    cumulative_exons: &[u32; 513],
+    cumulative_cds: &[u32; 513],
+    selenocysteine_codons: &[u32; 64],
+) -> Called
+    requires { ⌜ Prepared (lent model (now «exon_starts») (now «exon_ends») (now «seg_phases») (now «seg_exons») (now «seg_starts») (now «seg_ends») (now selenocysteine)) scalars (now «cumulative_exons») (now «cumulative_cds») (now «selenocysteine_codons») ⌝ }
+    ensures { λ r. ⌜ r ≡ annotateSnv sourceRanges (lent model (now («exon_starts» .entry)) (now («exon_ends» .entry)) (now («seg_phases» .entry)) (now («seg_exons» .entry)) (now («seg_starts» .entry)) (now («seg_ends» .entry)) (now (selenocysteine .entry))) (record { chromosome = «window_chromosome»; first = «window_first»; bytes = now (window .entry) }) call ⌝ }
+{
+    let refusal = opening_refusal(
+        model.chromosome,
+        window_chromosome,
+        window_first,
+        window,
+        call,
+    );
+    if refusal != 0 {
+        return Called::Refused(refusal);
+    }
+    let strand = model.strand;
+    let p = base_of(strand, call.position);
+    let place = place_of_base(
+        model,
+        exon_starts,
+        exon_ends,
+        seg_phases,
+        seg_exons,
+        seg_starts,
+        seg_ends,
+        selenocysteine,
+        scalars,
+        cumulative_exons,
+        p,
+    );
+    let placed = annotate_place(
+        window_first,
+        window,
+        call.alt_base,
+        model,
+        exon_starts,
+        exon_ends,
+        seg_phases,
+        seg_exons,
+        seg_starts,
+        seg_ends,
+        selenocysteine,
+        scalars,
+        cumulative_exons,
+        cumulative_cds,
+        selenocysteine_codons,
+        place,
+        p,
+    );
+    let Called::Answered(result) = placed else {
+        return placed;
+    };
+    let spill = spill_at(
+        scalars.has_frameshift_intron,
+        exon_starts,
+        exon_ends,
+        strand,
+        p,
+    );
+    Called::Answered(add_splice_spill(spill, result))
+}

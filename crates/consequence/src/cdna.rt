@@ -1,0 +1,32 @@
+// The cDNA position of an exon base.
+use locate::CdnaPosition;
+use transcript::Strand;
+use transcript::oriented::start_of;
+ghost use mathlib.Core.Path.{_≡_};
+ghost use Prim.Native.Nat.{_+_, _≤_, _<_};
+ghost use lib.ListN.{length, getD};
+ghost use Rattle.transcript.specs.Orient.{interval};
+ghost use Rattle.transcript.specs.Bases.{basesIn};
+ghost use Rattle.transcript.specs.Lent.{lentExons};
+ghost use Rattle.locate.specs.Search.{Ready};
+ghost use Rattle.locate.specs.Sums.{firstSum, Sums};
+
+// The position of p, an oriented base of exon i: the exonic bases before the exon and its place there, from 1.
+pub(crate) fn compute_cdna_position_exonic(
+    starts: &[u64],
+    ends: &[u64],
+    strand: Strand,
+    sums: &[u32; 513],
+    i: usize,
+    p: u64,
+) -> CdnaPosition
+    requires { ⌜ Ready strand (now starts) (now ends) ⌝ }
+    requires { ⌜ Sums (lentExons strand (now starts) (now ends)) (now sums) × (firstSum (now sums) ≡ 0) ⌝ }
+    requires { ⌜ (i < length (now starts)) × (getD (lentExons strand (now starts) (now ends)) i (interval 0 0) .start ≤ p) × (p < getD (lentExons strand (now starts) (now ends)) i (interval 0 0) .end) ⌝ }
+    ensures { λ r. ⌜ r .0 ≡ basesIn (lentExons strand (now (starts .entry)) (now (ends .entry))) 0 p + 1 ⌝ }
+{
+    let s = starts[i];
+    let e = ends[i];
+    let d = p - start_of(strand, s, e);
+    CdnaPosition(sums[i] + d as u32 + 1)
+}

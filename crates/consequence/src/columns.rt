@@ -1,0 +1,126 @@
+// What the codon of a coding base gives: position, number, codons, letters and terms.
+use super::Counted;
+use super::letters::shown_letters;
+use super::letters::shows_codon;
+use codon::AminoAcids;
+use codon::Codon;
+use codon::Codons;
+use codon::build_alt_codon;
+use codon::translate_altered_codon;
+use codon::translate_reference_codon;
+use terms::Consequence;
+use terms::TermSet;
+use terms::coding_term;
+ghost use mathlib.Core.Path.{_≡_};
+ghost use Prim.Native.Nat.{_+_, _≤_};
+ghost use Rattle.transcript.specs.Limits.{top};
+ghost use Rattle.transcript.specs.Orient.{Oriented};
+ghost use Rattle.codon.specs.Table.{buildAltCodon};
+ghost use Rattle.consequence.specs.Reading.{isIncompleteTerminalCodon, holdsSelenocysteine};
+ghost use Rattle.consequence.specs.Coding.{isStartCodon, isPaddedCodon};
+ghost use Rattle.consequence.specs.Answer.{columnsOf, termAlone, incompleteCodon, wholeCodon, readCodon};
+
+// What an exon base gives to an answer, from its codon where it is coding.
+pub struct CodonColumns {
+    pub position: Counted,
+    pub number: Counted,
+    pub codons: Codons,
+    pub letters: AminoAcids,
+    pub terms: TermSet,
+}
+
+// An exon base that is not coding has its term alone.
+pub(crate) fn term_alone(term: Consequence) -> CodonColumns
+    ensures { λ r. ⌜ columnsOf r ≡ termAlone term ⌝ }
+{
+    CodonColumns {
+        position: Counted::Absent,
+        number: Counted::Absent,
+        codons: Codons::Absent,
+        letters: AminoAcids::Absent,
+        terms: TermSet::of(term),
+    }
+}
+
+// An unfinished last codon: its own bases as codons, letter X.
+fn incomplete_codon(offset: u32, number: u32, c: Codon, altered: Codon, k: u8) -> CodonColumns
+    requires { ⌜ offset ≤ 2 + top ⌝ }
+    ensures { λ r. ⌜ columnsOf r ≡ incompleteCodon offset number c altered k ⌝ }
+{
+    let first = TermSet::of(Consequence::IncompleteTerminalCodonVariant);
+    let terms = first.with(Consequence::CodingSequenceVariant);
+    CodonColumns {
+        position: Counted::At(offset + 1),
+        number: Counted::At(number),
+        codons: Codons::Change {
+            reference: c,
+            altered,
+            place: k,
+        },
+        letters: AminoAcids::One(b'X'),
+        terms,
+    }
+}
+
+// A whole codon with its two letters.
+fn whole_codon(
+    start: bool,
+    padded: bool,
+    offset: u32,
+    number: u32,
+    c: Codon,
+    altered: Codon,
+    k: u8,
+    reference_letter: u8,
+    altered_letter: u8,
+) -> CodonColumns
+    requires { ⌜ offset ≤ 2 + top ⌝ }
+    ensures { λ r. ⌜ ((t : Oriented) → start ≡ isStartCodon t number → padded ≡ isPaddedCodon t number → columnsOf r ≡ wholeCodon t offset number c altered k «reference_letter» «altered_letter») ⌝ }
+{
+    let letters = shown_letters(padded, reference_letter, altered_letter);
+    let terms = TermSet::of(coding_term(start, reference_letter, altered_letter));
+    if shows_codon(padded, reference_letter) {
+        return CodonColumns {
+            position: Counted::At(offset + 1),
+            number: Counted::At(number),
+            codons: Codons::Change {
+                reference: c,
+                altered,
+                place: k,
+            },
+            letters,
+            terms,
+        };
+    }
+    CodonColumns {
+        position: Counted::At(offset + 1),
+        number: Counted::Absent,
+        codons: Codons::Absent,
+        letters,
+        terms,
+    }
+}
+
+// The codon of that number, whose base at place k becomes the base put in.
+pub(crate) fn read_codon(
+    start: bool,
+    padded: bool,
+    incomplete: bool,
+    selenocysteine: bool,
+    offset: u32,
+    number: u32,
+    c: Codon,
+    k: u8,
+    b: u8,
+) -> CodonColumns
+    requires { ⌜ offset ≤ 2 + top ⌝ }
+    ensures { λ r. ⌜ ((t : Oriented) → start ≡ isStartCodon t number → padded ≡ isPaddedCodon t number → incomplete ≡ isIncompleteTerminalCodon t offset → selenocysteine ≡ holdsSelenocysteine t number → columnsOf r ≡ readCodon t offset number c (buildAltCodon c k b) k) ⌝ }
+{
+    let altered = build_alt_codon(c, k, b);
+    if incomplete {
+        return incomplete_codon(offset, number, c, altered, k);
+    }
+    let x = translate_reference_codon(selenocysteine, c);
+    let y = translate_altered_codon(c, k, b);
+    whole_codon(start, padded, offset, number, c, altered, k, x, y)
+}

@@ -1,0 +1,72 @@
+// The single-base call: its types and its questions.
+mod admitted;
+mod answer;
+mod cdna;
+mod coding;
+mod columns;
+mod letters;
+mod place;
+mod reading;
+mod refusal;
+mod region;
+mod segment;
+mod selenocysteine;
+mod snv;
+mod spill;
+mod window;
+
+pub use admitted::annotate_admitted;
+use codon::AminoAcids;
+use codon::Codon;
+use codon::Codons;
+use locate::VariantLocation;
+pub use snv::annotate_snv;
+use terms::TermSet;
+
+pub struct Call {
+    pub chromosome: u16,
+    pub position: u64,
+    pub ref_base: u8,
+    pub alt_base: u8,
+}
+
+// A base read through the window.
+pub enum FetchedBase {
+    Base(u8),
+    OutsideWindow,
+}
+
+pub enum FetchedCodon {
+    Bases(Codon),
+    OutsideWindow,
+}
+
+// An exon or intron number k of n.
+pub enum Numbered {
+    Absent,
+    Of { number: u16, total: u16 },
+}
+
+// A position or number that counts from 1.
+pub enum Counted {
+    Absent,
+    At(u32),
+}
+
+// The whole answer to a call.
+pub struct ConsequenceResult {
+    pub location: VariantLocation,
+    pub exon: Numbered,
+    pub intron: Numbered,
+    pub cds_position: Counted,
+    pub cdna_position: Counted,
+    pub protein_start: Counted,
+    pub codons: Codons,
+    pub amino_acids: AminoAcids,
+    pub consequences: TermSet,
+}
+
+pub enum Called {
+    Answered(ConsequenceResult),
+    Refused(u8),
+}

@@ -1,0 +1,94 @@
+// The answer at a place, before the splice spill.
+use super::Called;
+use super::answer::exon_result;
+use super::answer::flank_result;
+use super::answer::intron_result;
+use super::cdna::compute_cdna_position_exonic;
+use super::coding::annotate_cds_snv;
+use super::columns::term_alone;
+use super::region::Region;
+use super::region::region_of;
+use locate::IndexScalars;
+use locate::VariantLocation;
+use transcript::TranscriptModel;
+ghost use mathlib.Core.Path.{_≡_};
+ghost use Rattle.transcript.specs.Transcript.{lent};
+ghost use Rattle.transcript.specs.Orient.{oriented};
+ghost use Rattle.footprint.specs.Ranges.{sourceRanges};
+ghost use Rattle.locate.specs.Place.{locate};
+ghost use Rattle.consequence.specs.Window.{windowFrom, codingByte};
+ghost use Rattle.consequence.specs.Call.{callCodon};
+ghost use Rattle.consequence.specs.Region.{placeCalled};
+ghost use Rattle.consequence.specs.Prepared.{Prepared};
+
+// `place` is that of p, an oriented base, and `alt_base` is put in there. Refusals 19 and 21.
+pub(crate) fn annotate_place(
+    first: u64,
+    bytes: &[u8],
+    alt_base: u8,
+    model: TranscriptModel,
+    exon_starts: &[u64],
+    exon_ends: &[u64],
+    seg_phases: &[u8],
+    seg_exons: &[u16],
+    seg_starts: &[u64],
+    seg_ends: &[u64],
+    selenocysteine: &[u64],
+    scalars: IndexScalars,
+    cumulative_exons: &[u32; 513],
+    cumulative_cds: &[u32; 513],
+    selenocysteine_codons: &[u32; 64],
+    place: VariantLocation,
+    p: u64,
+) -> Called
+    requires { ⌜ Prepared (lent model (now «exon_starts») (now «exon_ends») (now «seg_phases») (now «seg_exons») (now «seg_starts») (now «seg_ends») (now selenocysteine)) scalars (now «cumulative_exons») (now «cumulative_cds») (now «selenocysteine_codons») ⌝ }
+    requires { ⌜ place ≡ locate sourceRanges (oriented (lent model (now «exon_starts») (now «exon_ends») (now «seg_phases») (now «seg_exons») (now «seg_starts») (now «seg_ends») (now selenocysteine))) p ⌝ }
+    ensures { λ r. ⌜ r ≡ placeCalled (oriented (lent model (now («exon_starts» .entry)) (now («exon_ends» .entry)) (now («seg_phases» .entry)) (now («seg_exons» .entry)) (now («seg_starts» .entry)) (now («seg_ends» .entry)) (now (selenocysteine .entry)))) p (codingByte (model .strand) «alt_base») (callCodon (lent model (now («exon_starts» .entry)) (now («exon_ends» .entry)) (now («seg_phases» .entry)) (now («seg_exons» .entry)) (now («seg_starts» .entry)) (now («seg_ends» .entry)) (now (selenocysteine .entry))) (windowFrom first (now (bytes .entry)))) place ⌝ }
+{
+    let exons = model.exon_count;
+    let strand = model.strand;
+    let region = region_of(place, 0 < seg_starts.len());
+    match region {
+        Region::Distal => Called::Refused(19),
+        Region::Flank { term } => Called::Answered(flank_result(place, term)),
+        Region::Intron { index, term, mark } => {
+            Called::Answered(intron_result(place, exons, index, term, mark))
+        }
+        Region::Exon { index, term, mark } => {
+            let cdna = compute_cdna_position_exonic(
+                exon_starts,
+                exon_ends,
+                strand,
+                cumulative_exons,
+                index as usize,
+                p,
+            );
+            Called::Answered(exon_result(place, exons, index, cdna, mark, term_alone(term)))
+        }
+        Region::Coding {
+            index,
+            offset,
+            number,
+            position,
+            mark,
+        } => annotate_cds_snv(
+            place,
+            exons,
+            scalars,
+            model.cds_start_complete,
+            strand,
+            seg_starts,
+            seg_ends,
+            cumulative_cds,
+            selenocysteine_codons,
+            first,
+            bytes,
+            alt_base,
+            index,
+            offset,
+            number,
+            position,
+            mark,
+        ),
+    }
+}

@@ -1,0 +1,36 @@
+// The segment that holds a padded offset, from the cumulative coding lengths.
+ghost use mathlib.Core.Path.{_≡_};
+ghost use mathlib.Core.Bool.{cond};
+ghost use Prim.Native.Nat.{_+_, _≤_, _<_};
+ghost use lib.ListN.{getD};
+ghost use lib.Dec.{ltb};
+ghost use Rattle.consequence.specs.Segments.{Held};
+
+// Of `count` segments the one that holds padded offset k, and the first for a pad place: a binary search.
+pub(crate) fn segment_of(sums: &[u32; 513], count: usize, k: u32) -> usize
+    requires { ⌜ (0 < count) × (count ≤ 512) × (k < getD (now sums) count 0) ⌝ }
+    ensures { λ r. ⌜ Held (now (sums .entry)) count k r ⌝ }
+{
+    let mut lo: usize = 0;
+    let mut hi = count;
+    while lo + 1 < hi {
+        let mid = lo + (hi - lo) / 2;
+        if sums[mid] <= k {
+            lo = mid;
+        } else {
+            hi = mid;
+        }
+    }
+    lo
+}
+
+// The segment of padded offset k, where segment i holds the offset before it: each segment has a base.
+pub(crate) fn next_segment(sums: &[u32; 513], i: usize, k: u32) -> usize
+    requires { ⌜ i < 512 ⌝ }
+    ensures { λ r. ⌜ r ≡ cond (ltb k (getD (now (sums .entry)) (i + 1) 0)) i (i + 1) ⌝ }
+{
+    if k < sums[i + 1] {
+        return i;
+    }
+    i + 1
+}

@@ -1,0 +1,77 @@
+// The single-base call on a transcript as it is handed in.
+use super::Call;
+use super::Called;
+use super::admitted::annotate_admitted;
+use locate::index_of;
+use transcript::Admission;
+use transcript::TranscriptModel;
+use transcript::admit;
+use transcript::question::refusal_number;
+ghost use mathlib.Core.Path.{_≡_};
+ghost use Rattle.transcript.specs.Transcript.{lent};
+ghost use Rattle.footprint.specs.Ranges.{sourceRanges};
+ghost use Rattle.consequence.specs.Call.{annotateSnv};
+
+// The whole answer to a call, or the number of its refusal: 1 to 13, then 15, 14, 20, 16, 17, 18, 19 and 21.
+pub fn annotate_snv(
+    window_chromosome: u16,
+    window_first: u64,
+    window: &[u8],
+    call: Call,
+    model: TranscriptModel,
+    exon_starts: &[u64],
+    exon_ends: &[u64],
+    seg_phases: &[u8],
+    seg_exons: &[u16],
+    seg_starts: &[u64],
+    seg_ends: &[u64],
+    selenocysteine: &[u64],
+) -> Called
+    ensures { λ r. ⌜ r ≡ annotateSnv sourceRanges (lent model (now («exon_starts» .entry)) (now («exon_ends» .entry)) (now («seg_phases» .entry)) (now («seg_exons» .entry)) (now («seg_starts» .entry)) (now («seg_ends» .entry)) (now (selenocysteine .entry))) (record { chromosome = «window_chromosome»; first = «window_first»; bytes = now (window .entry) }) call ⌝ }
+{
+    let admitted = admit(
+        model,
+        exon_starts,
+        exon_ends,
+        seg_phases,
+        seg_exons,
+        seg_starts,
+        seg_ends,
+        selenocysteine,
+    );
+    let Admission::Admitted = admitted else {
+        return Called::Refused(refusal_number(admitted));
+    };
+    let index = index_of(
+        model,
+        exon_starts,
+        exon_ends,
+        seg_phases,
+        seg_exons,
+        seg_starts,
+        seg_ends,
+        selenocysteine,
+    );
+    let scalars = index.scalars;
+    let cumulative_exons = index.cumulative_exons;
+    let cumulative_cds = index.cumulative_cds;
+    let selenocysteine_codons = index.selenocysteine_codons;
+    annotate_admitted(
+        window_chromosome,
+        window_first,
+        window,
+        call,
+        model,
+        exon_starts,
+        exon_ends,
+        seg_phases,
+        seg_exons,
+        seg_starts,
+        seg_ends,
+        selenocysteine,
+        scalars,
+        &cumulative_exons,
+        &cumulative_cds,
+        &selenocysteine_codons,
+    )
+}

@@ -1,0 +1,145 @@
+// One pair of a shorter and a longer transcript, and the answers of both to the same calls, one below the other: numbers, totals and
+// cDNA positions move by what was added, the mark and its term are gained at the two ends, and all else stays.
+use consequence::Call;
+use consequence::Called;
+use consequence::annotate_snv;
+use libc::STDOUT_FILENO;
+use listing::Written;
+use listing::answer::write_answer;
+use listing::line::write_refusal;
+use transcript::CdsBounds;
+use transcript::Strand;
+use transcript::TranscriptModel;
+
+// 90 bases from coordinate 100: all A save T at 111 and 167, G at 112 and 128.
+const WINDOW: [u8; 90] = *b"\
+AAAAAAAAAAATGAAAAAAAAAAAAAAAGAAAAAAAAAAAAAAAA\
+AAAAAAAAAAAAAAAAAAAAAATAAAAAAAAAAAAAAAAAAAAAA";
+
+// T1: exons [100,130) and [160,190), CDS [110,170), phases 0 and 1, start complete.
+fn shorter(call: Call) -> Called {
+    let model = TranscriptModel {
+        id: 7,
+        chromosome: 1,
+        strand: Strand::Plus,
+        exon_count: 2,
+        tx_start: 100,
+        tx_end: 190,
+        cds: CdsBounds::Both {
+            cds_genomic_start: 110,
+            cds_genomic_end: 170,
+        },
+        cds_start_complete: true,
+    };
+    let window = WINDOW;
+    let exon_starts = [100u64, 160];
+    let exon_ends = [130u64, 190];
+    let phases = [0u8, 1];
+    let exons = [0u16, 1];
+    let seg_starts = [110u64, 160];
+    let seg_ends = [130u64, 170];
+    let none = [0u64; 1];
+    annotate_snv(
+        1,
+        100,
+        &window,
+        call,
+        model,
+        &exon_starts,
+        &exon_ends,
+        &phases,
+        &exons,
+        &seg_starts,
+        &seg_ends,
+        &none[..0],
+    )
+}
+
+// The same with exons [50,80) and [215,230) added.
+fn longer(call: Call) -> Called {
+    let model = TranscriptModel {
+        id: 8,
+        chromosome: 1,
+        strand: Strand::Plus,
+        exon_count: 4,
+        tx_start: 50,
+        tx_end: 230,
+        cds: CdsBounds::Both {
+            cds_genomic_start: 110,
+            cds_genomic_end: 170,
+        },
+        cds_start_complete: true,
+    };
+    let window = WINDOW;
+    let exon_starts = [50u64, 100, 160, 215];
+    let exon_ends = [80u64, 130, 190, 230];
+    let phases = [0u8, 1];
+    let exons = [1u16, 2];
+    let seg_starts = [110u64, 160];
+    let seg_ends = [130u64, 170];
+    let none = [0u64; 1];
+    annotate_snv(
+        1,
+        100,
+        &window,
+        call,
+        model,
+        &exon_starts,
+        &exon_ends,
+        &phases,
+        &exons,
+        &seg_starts,
+        &seg_ends,
+        &none[..0],
+    )
+}
+
+// How many bytes were written.
+fn length_of(w: Written) -> usize {
+    match w {
+        Written::Bytes(n) => n,
+        Written::Refused(k) => 0,
+    }
+}
+
+fn print(out: &[u8], n: usize) {
+    if n <= out.len() {
+        io::write_all(STDOUT_FILENO, &out[..n]);
+    }
+}
+
+// The line of an answer.
+fn show(number: u64, id: u64, called: Called) {
+    let mut out = [0u8; 256];
+    match called {
+        Called::Answered(a) => {
+            let w = write_answer(&mut out, number, id, a);
+            print(&out, length_of(w));
+        }
+        Called::Refused(n) => {
+            let w = write_refusal(&mut out, number, id, n as u64);
+            print(&out, length_of(w));
+        }
+    }
+}
+
+// The two answers to one call.
+fn compare(number: u64, position: u64, ref_base: u8, alt_base: u8) {
+    let call = Call {
+        chromosome: 1,
+        position,
+        ref_base,
+        alt_base,
+    };
+    show(number, 7, shorter(call));
+    show(number, 8, longer(call));
+}
+
+fn main() {
+    compare(1, 101, b'A', b'C');
+    compare(2, 111, b'T', b'C');
+    compare(3, 129, b'A', b'C');
+    compare(4, 143, b'A', b'G');
+    compare(5, 189, b'A', b'G');
+    compare(6, 120, b'A', b'A');
+}
