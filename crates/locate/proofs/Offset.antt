@@ -36,22 +36,23 @@ sums-of first xs l =
     let e = first-sum first (map size xs) in
     record { are = ap (λ (n : ℕ). filled 513 (cumulative n (map size xs))) (sym e); low = omega arith }
 
-module _ (xs : List Interval) (sums : List ℕ) (h : Ascends 0 xs) (s : Sums xs sums) where
-  sum-at : (k : ℕ) → k ≤ length xs → getD sums k 0 ≡ getD (cumulative (firstSum sums) (map size xs)) k 0
+module _ (xs : List Interval) (sums : List ℕ) (s : Sums xs sums) where
+  pub sum-at : (k : ℕ) → k ≤ length xs → getD sums k 0 ≡ getD (cumulative (firstSum sums) (map size xs)) k 0
   sum-at k l =
       let n = length-map xs size in
       ap (λ (l : List ℕ). getD l k 0) (s .are) ∙ filled-at (firstSum sums) (map size xs) k (omega arith)
 
+module _ (xs : List Interval) (sums : List ℕ) (h : Ascends 0 xs) (s : Sums xs sums) where
   -- a base of interval k: what the array has at k and the place in the interval are the bases before it
   pub read-sum : (k p : ℕ) → k < length xs → getD xs k nowhere .start ≤ p → p < getD xs k nowhere .end
       → getD sums k 0 + (p - getD xs k nowhere .start) ≡ firstSum sums + basesIn xs 0 p
-  read-sum k p l a b = ap (λ (c : ℕ). c + (p - getD xs k nowhere .start)) (sum-at k (omega arith)) ∙ sum-before xs 0 (firstSum sums) k p h l a b
+  read-sum k p l a b = ap (λ (c : ℕ). c + (p - getD xs k nowhere .start)) (sum-at xs sums s k (omega arith)) ∙ sum-before xs 0 (firstSum sums) k p h l a b
 
   -- what is read can be added to
   pub sum-low : lastEnd xs ≤ top → (k : ℕ) → k ≤ length xs → getD sums k 0 ≤ 2 + top
   sum-low e k l =
       let n = length-map xs size in
-      let a = sum-at k l in
+      let a = sum-at xs sums s k l in
       let b = cumulative-le (firstSum sums) (map size xs) k (omega arith) in
       let c = sizes-le xs 0 h in
       let d = s .low in
@@ -61,7 +62,7 @@ module _ (xs : List Interval) (sums : List ℕ) (h : Ascends 0 xs) (s : Sums xs 
   pub sum-last : getD sums (length xs) 0 ≡ firstSum sums + totalSize xs
   sum-last =
       let n = length-map xs size in
-      sum-at (length xs) (omega arith) ∙ ap (λ (k : ℕ). getD (cumulative (firstSum sums) (map size xs)) k 0) (sym n) ∙ cumulative-last (firstSum sums) (map size xs)
+      sum-at xs sums s (length xs) (omega arith) ∙ ap (λ (k : ℕ). getD (cumulative (firstSum sums) (map size xs)) k 0) (sym n) ∙ cumulative-last (firstSum sums) (map size xs)
 
 -- the cDNA position of a coding base, from the index and its padded offset; what the code needs to subtract and to add
 pub record CdnaOf (o : Oriented) (p : ℕ) : Type 0 where
