@@ -13,7 +13,8 @@ use Rattle.common.specs.Lists.{memb}
 use Rattle.common.proofs.Lists.{any-stop, any-go, any-end}
 use Rattle.transcript.specs.Orient.{Oriented}
 use Rattle.locate.specs.Place.{cdsOffset}
-use Rattle.locate.specs.Index.{filled, selenocysteineCodons}
+use Rattle.common.specs.Stored.{filled}
+use Rattle.locate.specs.Index.{selenocysteineCodons}
 use Rattle.consequence.specs.Reading.{holdsSelenocysteine}
 
 module _ (number : ℕ) (codons : List ℕ) (count i : ℕ) (l : i < count) (h : count ≤ length codons) where

@@ -3,7 +3,8 @@ ghost use mathlib.Core.Path.{_≡_};
 ghost use Prim.Native.Nat.{_≤_};
 ghost use lib.ListN.{length};
 ghost use Rattle.transcript.specs.Orient.{Oriented};
-ghost use Rattle.locate.specs.Index.{filled, selenocysteineCodons};
+ghost use Rattle.common.specs.Stored.{filled};
+ghost use Rattle.locate.specs.Index.{selenocysteineCodons};
 ghost use Rattle.consequence.specs.Reading.{holdsSelenocysteine};
 
 // Whether the number stands among the first `count` codon numbers.

@@ -1,9 +1,9 @@
 -- How the walk ends.
 -- Assumes nothing.
-use Prim.Native.Nat.{ℕ, zero, suc, _+_, _-_, _≤_, _<_}
+use Prim.Native.Nat.{ℕ, zero, suc, _-_, _≤_, _<_}
 use mathlib.Core.Path.{_≡_, refl, sym, _∙_, ap}
 use mathlib.Core.Bool.{Bool, cond, not}
-use mathlib.Core.List.{List, [], _∷_, _++_, reverse, reverseAux, append-nil}
+use mathlib.Core.List.{List, [], _∷_, reverse, reverseAux, append-nil}
 use native.Mathlib.Omega.{arith}
 use lib.ListN.{length, getD, take, drop, length-reverseAux}
 use lib.Seq.{length-take-le}
@@ -15,11 +15,8 @@ use Rattle.deck.specs.Records.{recordCount, lowest}
 use Rattle.deck.specs.Walk.{Walk, walked, stopped, walkDeck}
 use Rattle.deck.specs.Order.{firstUnreached, walkedAs, orderOf, WalkEnds}
 use Rattle.deck.proofs.Ways.{ended, bad, walkWay}
+use Rattle.deck.proofs.Grown.{both-back}
 use Rattle.deck.proofs.Reached.{Reached}
-
-both-back : (xs ys zs : List ℕ) → reverseAux (reverseAux xs ys) zs ≡ reverseAux ys (xs ++ zs)
-both-back [] ys zs = refl
-both-back (x ∷ xs) ys zs = both-back xs (x ∷ ys) zs
 
 no-all : {A : Type 0} {i n : ℕ} → Bad i ≡ All n → A
 no-all e = absurd (let z : _≡_ {A = ℕ} 0 1 = cc in omega arith)

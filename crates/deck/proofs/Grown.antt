@@ -13,7 +13,7 @@ use Rattle.deck.specs.Records.{recordCount, kindOf, nextOf, half}
 use Rattle.deck.specs.Walk.{badLink, Chain, chained, broken, prepend, chainFrom, chain, Parts, Step, read, failed, follow, walkCoding, walkBounds, walkTranscript, Walk, walked, stopped, addParts, onward, transcriptsFrom, walkDeck}
 use Rattle.deck.specs.Order.{orderOf}
 use Rattle.deck.specs.Deck.{partsOf}
-use Rattle.deck.specs.Flat.{boundsList, recordsOf}
+use Rattle.deck.specs.Reached.{boundsList, recordsOf}
 
 abbrev pub Is : List ℕ → ℕ → ℕ → Type 0
 Is d kind i = (kindOf d i ≡ kind) × (i < recordCount d)
@@ -141,7 +141,7 @@ transcripts-grow (suc f) d from t r = here (eqb t 0) (badLink d 1 t r) refl (λ 
     here false false e g =
         onward-grows d t r (walkTranscript d t (t ∷ r)) (λ q. transcriptsFrom f d t (nextOf d t) q) (link-kind d 1 t r e) (transcript-grows d t (t ∷ r)) g
 
-both-back : (xs ys zs : List ℕ) → reverseAux (reverseAux xs ys) zs ≡ reverseAux ys (xs ++ zs)
+pub both-back : (xs ys zs : List ℕ) → reverseAux (reverseAux xs ys) zs ≡ reverseAux ys (xs ++ zs)
 both-back [] ys zs = refl
 both-back (x ∷ xs) ys zs = both-back xs (x ∷ ys) zs
 

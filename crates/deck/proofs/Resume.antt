@@ -7,7 +7,7 @@ use mathlib.Core.List.{List, _∷_}
 use native.Mathlib.Omega.{arith}
 use lib.Dec.{eqb}
 use borrow.Author.Tests.{eqb-true}
-use Rattle.deck.specs.declared.walk.Link.{Link}
+use Rattle.deck.specs.declared.links.Link.{Link}
 use Rattle.deck.specs.Records.{recordCount, nextOf, half}
 use Rattle.deck.specs.Walk.{badLink, chainFrom, chain}
 use Rattle.deck.specs.Links.{exonLink, segmentLink, nextLink, boundsAfter}

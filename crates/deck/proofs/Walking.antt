@@ -8,7 +8,7 @@ use native.Mathlib.Omega.{arith}
 use lib.ListN.{length, getD, take, set}
 use lib.Dec.{eqb, leb}
 use borrow.Author.Tests.{eq-eqb, ne-eqb}
-use Rattle.deck.specs.declared.walk.Link.{Link}
+use Rattle.deck.specs.declared.links.Link.{Link}
 use Rattle.deck.specs.Records.{recordCount, kindOf, nextOf, half}
 use Rattle.deck.specs.Walk.{badLink, chainFrom, walkTranscript, transcriptsFrom, walkDeck}
 use Rattle.deck.specs.Links.{exonLink, segmentLink, nextLink, boundsAfter}

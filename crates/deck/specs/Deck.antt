@@ -1,5 +1,5 @@
 -- Reading a deck: its refusal in the order 22, 23, 25, 24, then 1 to 13 in chain order, or its transcripts.
-use Prim.Native.Nat.{ℕ, _/_, _%_}
+use Prim.Native.Nat.{ℕ, _-_, _/_, _%_}
 use mathlib.Core.Bool.{Bool, cond, not, _||_}
 use mathlib.Core.List.{List, [], _∷_, map}
 use lib.ListN.{length, getD}
@@ -11,14 +11,12 @@ use Rattle.transcript.specs.declared.CdsBounds.the-variants.{Neither, Both}
 use Rattle.transcript.specs.declared.Exon.{Exon}
 use Rattle.transcript.specs.declared.CdsSegment.{CdsSegment}
 use Rattle.transcript.specs.Transcript.{Transcript}
-use Rattle.transcript.specs.Admission.{admission}
+use Rattle.transcript.specs.declared.Admission.{Admission}
+use Rattle.transcript.specs.Admission.{admissionOf}
 use Rattle.deck.specs.declared.DeckAnswer.{DeckAnswer}
 use Rattle.deck.specs.declared.DeckAnswer.the-variants.{Accepted, Refused}
 use Rattle.deck.specs.Records.{recordCount, markOf, nextOf, half, word, badRecord, lowest}
-use Rattle.common.specs.Stored.{stored}
-use Rattle.deck.specs.declared.flat.Flat.{Flat}
 use Rattle.deck.specs.declared.structure.Structure.{Structure}
-use Rattle.deck.specs.Flat.{exonsOf, segmentsOf, selenocysteineOf}
 use Rattle.deck.specs.declared.walk.Walked.{Walked}
 use Rattle.deck.specs.declared.walk.Walked.the-variants.{All, Bad}
 use Rattle.deck.specs.Order.{walkedAs}
@@ -31,29 +29,24 @@ abbrev pub segmentAt : List ℕ → ℕ → CdsSegment
 segmentAt d i = record { phase = markOf d i; «exon_index» = half d i 12; «genomic_start» = word d i 4; «genomic_end» = word d i 8 }
 
 -- mark bit 0 minus
-abbrev pub strandAt : List ℕ → ℕ → Strand
-strandAt d i = cond (eqb (markOf d i % 2) 1) Minus Plus
+abbrev pub strandOf : ℕ → Strand
+strandOf mark = cond (eqb (mark % 2) 1) Minus Plus
 
 -- mark bit 1 start complete
-abbrev pub startComplete : List ℕ → ℕ → Bool
-startComplete d i = eqb (markOf d i / 2 % 2) 1
+abbrev pub startComplete : ℕ → Bool
+startComplete mark = eqb (mark / 2 % 2) 1
 
 abbrev pub cdsAt : List ℕ → ℕ → CdsBounds
 cdsAt d b = cond (eqb b 0) Neither (Both (word d b 4) (word d b 8))
 
--- the last record of a chain, 0 of an empty one
-unfoldable pub lastOf : ℕ → List ℕ → ℕ
-lastOf i [] = i
-lastOf i (j ∷ js) = lastOf j js
+-- an exon of a chain, by its place in it
+abbrev pub exonIn : List Exon → ℕ → Exon
+exonIn xs i = getD xs i (record { «genomic_start» = 0; «genomic_end» = 0 })
 
--- tx bounds: the outer edges of the first and last exon of the chain
-abbrev pub txStart : List ℕ → Strand → List ℕ → ℕ
-txStart d Plus is = word d (getD is 0 0) 4
-txStart d Minus is = word d (lastOf 0 is) 4
-
-abbrev pub txEnd : List ℕ → Strand → List ℕ → ℕ
-txEnd d Plus is = word d (lastOf 0 is) 8
-txEnd d Minus is = word d (getD is 0 0) 8
+-- the tx bounds come from the chain: the outer edges of its first and last exon
+abbrev pub txBounds : Strand → List Exon → Exon
+txBounds Plus xs = record { «genomic_start» = exonIn xs 0 .«genomic_start»; «genomic_end» = exonIn xs (length xs - 1) .«genomic_end» }
+txBounds Minus xs = record { «genomic_start» = exonIn xs (length xs - 1) .«genomic_start»; «genomic_end» = exonIn xs 0 .«genomic_end» }
 
 -- exon_count and tx bounds come from the chain
 unfoldable pub transcriptOf : List ℕ → Parts → Transcript
@@ -61,23 +54,27 @@ transcriptOf d p = record {
   model = record {
     id = word d (p .transcript) 4;
     chromosome = half d (p .transcript) 8;
-    strand = strandAt d (p .transcript);
+    strand = strandOf (markOf d (p .transcript));
     «exon_count» = length (p .exons);
-    «tx_start» = txStart d (strandAt d (p .transcript)) (p .exons);
-    «tx_end» = txEnd d (strandAt d (p .transcript)) (p .exons);
+    «tx_start» = txBounds (strandOf (markOf d (p .transcript))) (map (exonAt d) (p .exons)) .«genomic_start»;
+    «tx_end» = txBounds (strandOf (markOf d (p .transcript))) (map (exonAt d) (p .exons)) .«genomic_end»;
     cds = cdsAt d (p .bounds);
-    «cds_start_complete» = startComplete d (p .transcript);
+    «cds_start_complete» = startComplete (markOf d (p .transcript));
   };
   exons = map (exonAt d) (p .exons);
   segments = map (segmentAt d) (p .segments);
   selenocysteine = map (λ i. word d i 4) (p .selenocysteine);
 }
 
+-- on with what follows an admitted transcript, or its refusal with its record
+abbrev pub admittedThen : Admission → ℕ → DeckAnswer → DeckAnswer
+admittedThen Admission.Admitted i later = later
+admittedThen (Admission.Refused n) i later = Refused n i
+
 -- the first refused transcript in chain order
 unfoldable pub admitAll : List ℕ → List Parts → DeckAnswer
 admitAll d [] = Accepted
-admitAll d (p ∷ ps) =
-    cond (eqb (admission (transcriptOf d p)) 0) (admitAll d ps) (Refused (admission (transcriptOf d p)) (p .transcript))
+admitAll d (p ∷ ps) = admittedThen (admissionOf (transcriptOf d p)) (p .transcript) (admitAll d ps)
 
 -- 22: deck length 0, not a multiple of 16, or over 65,536
 abbrev pub badLength : List ℕ → Bool
@@ -124,12 +121,3 @@ deckNumber (Refused n i) = n
 abbrev pub deckRecord : DeckAnswer → ℕ
 deckRecord Accepted = 0
 deckRecord (Refused n i) = i
-
--- the counts of a sound deck, and a lent array afterwards: the records at its front, unchanged where the deck is refused
-abbrev pub flatAs : Structure → List Parts → Flat
-flatAs (Structure.Records n) ps = Flat.Counts (length (exonsOf ps)) (length (segmentsOf ps)) (length (selenocysteineOf ps))
-flatAs (Structure.Refused n i) ps = Flat.Refused n i
-
-abbrev pub flatTo : Structure → List ℕ → List ℕ → List ℕ
-flatTo (Structure.Records n) buffer records = stored buffer 0 records
-flatTo (Structure.Refused n i) buffer records = buffer

@@ -3,7 +3,7 @@ use Prim.Native.Nat.{ℕ}
 use mathlib.Core.Bool.{cond}
 use mathlib.Core.List.{List}
 use lib.Dec.{eqb}
-use Rattle.deck.specs.declared.walk.Link.{Link}
+use Rattle.deck.specs.declared.links.Link.{Link}
 use Rattle.deck.specs.Records.{nextOf, half, boundsKind, exonKind, segmentKind, selenocysteineKind}
 
 -- an exon of transcript t, or its bounds where the exons are at their end

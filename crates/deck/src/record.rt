@@ -6,9 +6,10 @@ ghost use mathlib.Core.Path.{_≡_};
 ghost use mathlib.Core.Bool.{_||_, not};
 ghost use lib.ListN.{length};
 ghost use lib.Dec.{eqb};
+ghost use Rattle.common.specs.Little.{at1};
 ghost use Rattle.deck.specs.Records.{kindOf, markOf, half, word, unusedNotZero, badRecord, lowest};
 
-pub fn kind_of(d: &[u8], i: usize) -> u8
+pub(crate) fn kind_of(d: &[u8], i: usize) -> u8
     requires { ⌜ 16 * i + 16 ≤ length (now d) ⌝ }
     ensures { λ r. ⌜ r ≡ kindOf (now (d .entry)) i ⌝ }
 {
@@ -16,7 +17,16 @@ pub fn kind_of(d: &[u8], i: usize) -> u8
     d[at]
 }
 
-pub fn mark_of(d: &[u8], i: usize) -> u8
+// Byte k of record i.
+pub(crate) fn byte_of(d: &[u8], i: usize, k: usize) -> u8
+    requires { ⌜ (16 * i + 16 ≤ length (now d)) × (k ≤ 15) ⌝ }
+    ensures { λ r. ⌜ r ≡ at1 (now (d .entry)) (16 * i + k) ⌝ }
+{
+    let at = 16 * i + k;
+    d[at]
+}
+
+pub(crate) fn mark_of(d: &[u8], i: usize) -> u8
     requires { ⌜ 16 * i + 16 ≤ length (now d) ⌝ }
     ensures { λ r. ⌜ r ≡ markOf (now (d .entry)) i ⌝ }
 {
@@ -25,7 +35,7 @@ pub fn mark_of(d: &[u8], i: usize) -> u8
 }
 
 // The two-byte number at byte k of record i.
-pub fn half_of(d: &[u8], i: usize, k: usize) -> u16
+pub(crate) fn half_of(d: &[u8], i: usize, k: usize) -> u16
     requires { ⌜ (16 * i + 16 ≤ length (now d)) × (k ≤ 14) ⌝ }
     ensures { λ r. ⌜ r ≡ half (now (d .entry)) i k ⌝ }
 {
@@ -33,7 +43,7 @@ pub fn half_of(d: &[u8], i: usize, k: usize) -> u16
 }
 
 // The four-byte number at byte k of record i.
-pub fn word_of(d: &[u8], i: usize, k: usize) -> u32
+pub(crate) fn word_of(d: &[u8], i: usize, k: usize) -> u32
     requires { ⌜ (16 * i + 16 ≤ length (now d)) × (k ≤ 12) ⌝ }
     ensures { λ r. ⌜ r ≡ word (now (d .entry)) i k ⌝ }
 {
@@ -96,7 +106,7 @@ fn unused_not_zero(d: &[u8], i: usize) -> bool
 }
 
 // 23 of one record.
-pub fn bad_record(d: &[u8], i: usize) -> bool
+pub(crate) fn bad_record(d: &[u8], i: usize) -> bool
     requires { ⌜ 16 * i + 16 ≤ length (now d) ⌝ }
     ensures { λ r. ⌜ r ≡ badRecord (now (d .entry)) i ⌝ }
 {
@@ -114,7 +124,7 @@ pub fn bad_record(d: &[u8], i: usize) -> bool
 }
 
 // The lowest of the first n records that is at fault, n where none is.
-pub fn first_bad(d: &[u8], n: usize) -> usize
+pub(crate) fn first_bad(d: &[u8], n: usize) -> usize
     requires { ⌜ 16 * n ≤ length (now d) ⌝ }
     ensures { λ r. ⌜ r ≡ lowest (badRecord (now (d .entry))) n 0 ⌝ }
 {

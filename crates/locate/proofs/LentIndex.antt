@@ -24,7 +24,8 @@ use Rattle.transcript.specs.Admission.{badExon, ascending, admission}
 use Rattle.transcript.specs.Lent.{exonSize, padOfPhases, lentExons}
 use Rattle.footprint.specs.ShortIntron.{isFrameshiftGap}
 use Rattle.locate.specs.Place.{intervalIndex}
-use Rattle.locate.specs.Index.{cumulative, filled, indexScalars, locateIndex}
+use Rattle.common.specs.Stored.{filled}
+use Rattle.locate.specs.Index.{cumulative, indexScalars, locateIndex}
 use Rattle.locate.specs.Sums.{firstSum, Sums}
 use Rattle.locate.specs.Coded.{Coded}
 use Rattle.locate.specs.Exonic.{headOf}

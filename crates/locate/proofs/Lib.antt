@@ -2,7 +2,6 @@ pub mod Coding
 pub mod CountedBases
 pub mod Cdna
 pub mod PrefixSums
-pub mod Filling
 pub mod Sums
 pub mod LentIndex
 pub mod Offset

@@ -15,7 +15,8 @@ use Rattle.transcript.specs.Orient.{Interval, Oriented, oriented}
 use Rattle.transcript.specs.Bases.{inside, insideAny, size, basesIn, totalSize, lastEnd}
 use Rattle.transcript.specs.Cuts.{Cut, cutOf, meet, cuts}
 use Rattle.locate.specs.Place.{intervalIndex, cdsOffset, cdnaPosition}
-use Rattle.locate.specs.Index.{cumulative, filled, indexScalars}
+use Rattle.common.specs.Stored.{filled}
+use Rattle.locate.specs.Index.{cumulative, indexScalars}
 use Rattle.locate.specs.Sums.{firstSum, Sums}
 use Rattle.transcript.proofs.Ascends.{Ascends}
 use Rattle.transcript.proofs.Cuts.{segmentsFrom, cuts-some}

@@ -6,7 +6,8 @@ use mathlib.Core.List.{List, [], _∷_, map}
 use native.Mathlib.Omega.{arith}
 use lib.ListN.{length, getD, replicate, List·getD-append}
 use Rattle.transcript.specs.Transcript.{exonsOf}
-use Rattle.locate.specs.Index.{cumulative, filled}
+use Rattle.common.specs.Stored.{filled}
+use Rattle.locate.specs.Index.{cumulative}
 use Rattle.transcript.specs.Bases.{sum}
 use Rattle.transcript.specs.Lent.{exonSize}
 

@@ -1,10 +1,11 @@
 -- What is computed once for a transcript.
 use Prim.Native.Nat.{ℕ, _+_, _-_, _/_}
 use mathlib.Core.Bool.{false, cond}
-use mathlib.Core.List.{List, [], _∷_, _++_, map}
+use mathlib.Core.List.{List, [], _∷_, map}
 use lib.ListN.{length, replicate}
 use lib.Dec.{eqb}
 use Rattle.common.specs.Lists.{any}
+use Rattle.common.specs.Stored.{filled}
 use Rattle.transcript.specs.Transcript.{Transcript}
 use Rattle.transcript.specs.Orient.{Oriented, oriented}
 use Rattle.transcript.specs.Bases.{size, basesIn, gaps}
@@ -19,10 +20,6 @@ use Rattle.locate.specs.Place.{intervalIndex, cdsOffset, totalCdsLength}
 unfoldable pub cumulative : ℕ → List ℕ → List ℕ
 cumulative first [] = first ∷ []
 cumulative first (n ∷ ns) = first ∷ cumulative (first + n) ns
-
--- with zeros up to n elements
-abbrev pub filled : ℕ → List ℕ → List ℕ
-filled n l = l ++ replicate (n - length l) 0
 
 -- the codon number of each selenocysteine base
 abbrev pub selenocysteineCodons : Oriented → List ℕ

@@ -5,7 +5,8 @@ use mathlib.Core.List.{List, map}
 use lib.ListN.{getD}
 use Rattle.transcript.specs.Orient.{Interval}
 use Rattle.transcript.specs.Bases.{size}
-use Rattle.locate.specs.Index.{cumulative, filled}
+use Rattle.common.specs.Stored.{filled}
+use Rattle.locate.specs.Index.{cumulative}
 
 -- what the sums start from: the pad for the CDS, 0 for the exons
 abbrev pub firstSum : List ℕ → ℕ

@@ -9,7 +9,8 @@ ghost use Rattle.common.specs.Lists.{any};
 ghost use Rattle.transcript.specs.Limits.{top, maxExons};
 ghost use Rattle.transcript.specs.Transcript.{exonsOf};
 ghost use Rattle.transcript.specs.Admission.{badExon};
-ghost use Rattle.locate.specs.Index.{cumulative, filled};
+ghost use Rattle.common.specs.Stored.{filled};
+ghost use Rattle.locate.specs.Index.{cumulative};
 ghost use Rattle.transcript.specs.Bases.{sum};
 ghost use Rattle.transcript.specs.Lent.{exonSize};
 

@@ -10,7 +10,7 @@ ghost use Rattle.transcript.specs.Orient.{orientBase};
 ghost use Rattle.transcript.specs.Bases.{basesIn};
 ghost use Rattle.transcript.specs.Lent.{lentExons};
 ghost use Rattle.locate.specs.Sums.{firstSum};
-ghost use Rattle.locate.specs.Index.{filled};
+ghost use Rattle.common.specs.Stored.{filled};
 ghost use Rattle.locate.specs.Coded.{Coded};
 
 // The codon number of each selenocysteine base.

@@ -1,39 +1,30 @@
+-- `deck::record::bad_record` meets its contract.
+-- Assumes nothing.
 use mathlib.Core.Path.{sym, _∙_}
 use denote.Ref.{now}
-use Rattle.deck.proofs.Unused.{bad-front, bad-head, head-right, other-right}
 use borrow.Author.Needs.{needs}
+use Rattle.deck.proofs.Unused.{bad-front, bad-head, head-right, other-right}
 use Rattle.deck.proofs.record.bad_record.Statement.{statement}
 use Rattle.deck.proofs.record.bad_record.Tie as tie
-use Rattle.deck.proofs.record.bad_record.Reads as reads
-use Rattle.deck.proofs.record.bad_record.Lts as lts
-use Rattle.deck.proofs.record.kind_of.Reads as kind-of-reads
-use Rattle.deck.proofs.record.unused_not_zero.Reads as unused-not-zero-reads
 
--- src/record.rt:100:9
 kind-of-requires : tie.Need-kind-of-requires
 kind-of-requires c κs = search needs
 
--- src/record.rt:103:13
 returns : tie.Need-returns
 returns c = let a = c .before .before .before .before .args in bad-front (now (a .d)) (a .i) (c .before .if1 .taken) (λ z. c .if2 .taken (c .before .before .kind-of .ensures ∙ z))
 
--- src/record.rt:105:9
 unused-not-zero-requires : tie.Need-unused-not-zero-requires
 unused-not-zero-requires c κs = search needs
 
--- src/record.rt:105:9
 returns-2 : tie.Need-returns-2
 returns-2 c = let a = c .before .before .before .before .before .args in c .unused-not-zero .ensures ∙ head-right (now (a .d)) (a .i) (c .before .before .if1 .taken) (sym (c .before .before .before .kind-of .ensures) ∙ c .before .if2 .left)
 
--- src/record.rt:108:9
 returns-3 : tie.Need-returns-3
 returns-3 c = let a = c .before .before .before .before .args in bad-head (now (a .d)) (a .i) (c .before .if1 .left) (sym (c .before .before .kind-of .ensures) ∙ c .if3 .taken)
 
--- src/record.rt:110:5
 unused-not-zero-requires-2 : tie.Need-unused-not-zero-requires-2
 unused-not-zero-requires-2 c κs = search needs
 
--- src/record.rt:96:1
 returns-4 : tie.Need-returns-4
 returns-4 c = let a = c .before .before .before .before .before .args in c .unused-not-zero2 .ensures ∙ other-right (now (a .d)) (a .i) (c .before .before .if1 .left) (λ z. c .before .if3 .left (c .before .before .before .kind-of .ensures ∙ z))
 

@@ -1,3 +1,5 @@
+-- `deck::record::first_bad` meets its contract.
+-- Assumes nothing.
 use Prim.Native.Nat.{_-_, _≤_}
 use mathlib.Core.Path.{_≡_, sym, _∙_}
 use native.Mathlib.Omega.{arith}
@@ -6,9 +8,6 @@ use Rattle.deck.specs.Records.{badRecord, lowest}
 use Rattle.deck.proofs.Lowest.{lowest-on, lowest-here, lowest-none}
 use Rattle.deck.proofs.record.first_bad.Statement.{statement}
 use Rattle.deck.proofs.record.first_bad.Tie as tie
-use Rattle.deck.proofs.record.first_bad.Reads as reads
-use Rattle.deck.proofs.record.first_bad.Lts as lts
-use Rattle.deck.proofs.record.bad_record.Reads as bad-record-reads
 
 abbrev Inv-loop : tie.InvT-loop
 Inv-loop d n i₀ i = (i ≤ n) × (lowest (badRecord d) (n - i) i ≡ lowest (badRecord d) n 0)
@@ -16,31 +15,24 @@ Inv-loop d n i₀ i = (i ≤ n) × (lowest (badRecord d) (n - i) i ≡ lowest (b
 abbrev μ-loop : tie.MeasureT-loop
 μ-loop d n i₀ i = n - i
 
--- src/record.rt:119:5
 loop-holds : tie.Need-loop-holds Inv-loop μ-loop
 loop-holds c = let e : c .before .args .n - 0 ≡ c .before .args .n = omega arith in (omega arith, rw e)
 
--- src/record.rt:120:12
 bad-record-requires : tie.Need-bad-record-requires Inv-loop μ-loop
 bad-record-requires c κs = omega arith
 
--- src/record.rt:121:13
 returns : tie.Need-returns Inv-loop μ-loop
 returns c = let a = c .before .before .before .before .before .args in sym (lowest-here (badRecord (now (a .d))) (a .n) (c .before .before .before .loop .i) (omega arith) (sym (c .before .bad-record .ensures) ∙ c .if1 .taken)) ∙ c .before .before .before .loop .inv .1
 
--- src/record.rt:123:9
 add-i : tie.Need-add-i Inv-loop μ-loop
 add-i c = omega arith
 
--- src/record.rt:119:5
 loop-less : tie.Need-loop-less Inv-loop μ-loop
 loop-less c = omega arith
 
--- src/record.rt:119:5
 loop-again : tie.Need-loop-again Inv-loop μ-loop
 loop-again c = let a = c .before .before .before .before .before .args in (omega arith, sym (lowest-on (badRecord (now (a .d))) (a .n) (c .before .before .before .loop .i) (omega arith) (sym (c .before .bad-record .ensures) ∙ c .if1 .left)) ∙ c .before .before .before .loop .inv .1)
 
--- src/record.rt:114:1
 returns-2 : tie.Need-returns-2 Inv-loop μ-loop
 returns-2 c = let a = c .before .before .before .args in sym (lowest-none (badRecord (now (a .d))) (a .n) (c .before .loop .i) (omega arith)) ∙ c .before .loop .inv .1
 

@@ -1,118 +1,87 @@
+-- `deck::record::unused_not_zero` meets its contract.
+-- Assumes nothing.
 use mathlib.Core.Path.{sym, _∙_}
 use denote.Ref.{now}
-use Rattle.deck.proofs.Unused.{unused-0, unused-1, unused-2, unused-3, unused-4, unused-5, unused-other}
 use borrow.Author.Needs.{needs}
+use Rattle.deck.proofs.Unused.{unused-0, unused-1, unused-2, unused-3, unused-4, unused-5, unused-other}
 use Rattle.deck.proofs.record.unused_not_zero.Statement.{statement}
 use Rattle.deck.proofs.record.unused_not_zero.Tie as tie
-use Rattle.deck.proofs.record.unused_not_zero.Reads as reads
-use Rattle.deck.proofs.record.unused_not_zero.Lts as lts
-use Rattle.deck.proofs.record.either.Reads as either-reads
-use Rattle.deck.proofs.record.half_used.Reads as half-used-reads
-use Rattle.deck.proofs.record.kind_of.Reads as kind-of-reads
-use Rattle.deck.proofs.record.mark_of.Reads as mark-of-reads
-use Rattle.deck.proofs.record.word_used.Reads as word-used-reads
 
--- src/record.rt:72:9
 kind-of-requires : tie.Need-kind-of-requires
 kind-of-requires c κs = search needs
 
--- src/record.rt:73:9
 mark-of-requires : tie.Need-mark-of-requires
 mark-of-requires c κs = search needs
 
--- src/record.rt:75:48
 word-used-requires : tie.Need-word-used-requires
 word-used-requires c κs = search needs
 
--- src/record.rt:75:30
 either-requires : tie.Need-either-requires
 either-requires c κs = search needs
 
--- src/record.rt:75:69
 word-used-requires-2 : tie.Need-word-used-requires-2
 word-used-requires-2 c κs = search needs
 
--- src/record.rt:75:23
 either-requires-2 : tie.Need-either-requires-2
 either-requires-2 c κs = search needs
 
--- src/record.rt:75:90
 word-used-requires-3 : tie.Need-word-used-requires-3
 word-used-requires-3 c κs = search needs
 
--- src/record.rt:75:9
 either-requires-3 : tie.Need-either-requires-3
 either-requires-3 c κs = search needs
 
--- src/record.rt:75:9
 returns : tie.Need-returns
 returns c = let a = c .before .before .before .before .before .before .before .before .before .before .args in cc (unused-0 (now (a .d)) (a .i) (sym (c .before .before .before .before .before .before .before .before .kind-of .ensures) ∙ c .before .before .before .before .before .before .if1 .taken))
 
--- src/record.rt:78:34
 half-used-requires : tie.Need-half-used-requires
 half-used-requires c κs = search needs
 
--- src/record.rt:78:9
 either-requires-4 : tie.Need-either-requires-4
 either-requires-4 c κs = search needs
 
--- src/record.rt:78:9
 returns-2 : tie.Need-returns-2
 returns-2 c = let a = c .before .before .before .before .before .before .before .args in cc (unused-1 (now (a .d)) (a .i) (sym (c .before .before .before .before .before .kind-of .ensures) ∙ c .before .before .if2 .taken))
 
--- src/record.rt:81:34
 half-used-requires-2 : tie.Need-half-used-requires-2
 half-used-requires-2 c κs = search needs
 
--- src/record.rt:81:9
 either-requires-5 : tie.Need-either-requires-5
 either-requires-5 c κs = search needs
 
--- src/record.rt:81:9
 returns-3 : tie.Need-returns-3
 returns-3 c = let a = c .before .before .before .before .before .before .before .before .args in cc (unused-2 (now (a .d)) (a .i) (sym (c .before .before .before .before .before .before .kind-of .ensures) ∙ c .before .before .if3 .taken))
 
--- src/record.rt:84:34
 word-used-requires-4 : tie.Need-word-used-requires-4
 word-used-requires-4 c κs = search needs
 
--- src/record.rt:84:9
 either-requires-6 : tie.Need-either-requires-6
 either-requires-6 c κs = search needs
 
--- src/record.rt:84:9
 returns-4 : tie.Need-returns-4
 returns-4 c = let a = c .before .before .before .before .before .before .before .before .before .args in cc (unused-3 (now (a .d)) (a .i) (sym (c .before .before .before .before .before .before .before .kind-of .ensures) ∙ c .before .before .if4 .taken))
 
--- src/record.rt:87:9
 half-used-requires-3 : tie.Need-half-used-requires-3
 half-used-requires-3 c κs = search needs
 
--- src/record.rt:87:9
 returns-5 : tie.Need-returns-5
 returns-5 c = let a = c .before .before .before .before .before .before .before .before .before .args in cc (unused-4 (now (a .d)) (a .i) (sym (c .before .before .before .before .before .before .before .kind-of .ensures) ∙ c .before .if5 .taken))
 
--- src/record.rt:90:41
 word-used-requires-5 : tie.Need-word-used-requires-5
 word-used-requires-5 c κs = search needs
 
--- src/record.rt:90:23
 either-requires-7 : tie.Need-either-requires-7
 either-requires-7 c κs = search needs
 
--- src/record.rt:90:62
 word-used-requires-6 : tie.Need-word-used-requires-6
 word-used-requires-6 c κs = search needs
 
--- src/record.rt:90:9
 either-requires-8 : tie.Need-either-requires-8
 either-requires-8 c κs = search needs
 
--- src/record.rt:90:9
 returns-6 : tie.Need-returns-6
 returns-6 c = let a = c .before .before .before .before .before .before .before .before .before .before .before .before .before .args in cc (unused-5 (now (a .d)) (a .i) (sym (c .before .before .before .before .before .before .before .before .before .before .before .kind-of .ensures) ∙ c .before .before .before .before .if6 .taken))
 
--- src/record.rt:68:1
 returns-7 : tie.Need-returns-7
 returns-7 c =
     let a = c .before .before .before .before .before .before .before .before .before .args in

@@ -1,33 +1,27 @@
+-- `deck::walk::bad_link` meets its contract.
+-- Assumes nothing.
 use mathlib.Core.Path.{sym, _∙_}
 use denote.Ref.{now}
 use borrow.Author.Tests.{eq-eqb, ne-eqb, le-leb, lt-leb}
-use Rattle.deck.specs.Records.{recordCount, kindOf}
 use borrow.Author.Needs.{needs}
+use Rattle.deck.specs.Records.{recordCount, kindOf}
 use Rattle.deck.proofs.walk.bad_link.Statement.{statement}
 use Rattle.deck.proofs.walk.bad_link.Tie as tie
-use Rattle.deck.proofs.walk.bad_link.Reads as reads
-use Rattle.deck.proofs.walk.bad_link.Lts as lts
-use Rattle.deck.proofs.record.kind_of.Reads as kind-of-reads
 
--- src/walk.rt:40:9
 returns : tie.Need-returns
 returns c = let a = c .before .before .args in rw (le-leb (recordCount (now (a .d))) (a .to) (c .if1 .taken))
 
--- src/walk.rt:42:8
 kind-of-requires : tie.Need-kind-of-requires
 kind-of-requires c κs = search needs
 
--- src/walk.rt:43:9
 returns-2 : tie.Need-returns-2
 returns-2 c =
     let a = c .before .before .before .before .args in
     rw (lt-leb (recordCount (now (a .d))) (a .to) (c .before .before .if1 .left), ne-eqb (kindOf (now (a .d)) (a .to)) (a .kind) (λ z. c .if2 .taken (c .before .kind-of .ensures ∙ z)))
 
--- src/walk.rt:45:5
 element-copy-out-result : tie.Need-element-copy-out-result
 element-copy-out-result c = search needs
 
--- src/walk.rt:35:1
 returns-3 : tie.Need-returns-3
 returns-3 c =
     let a = c .before .before .before .before .before .args in

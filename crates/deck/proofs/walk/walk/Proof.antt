@@ -1,4 +1,6 @@
-use Prim.Native.Nat.{ℕ, _-_, _/_, _≤_, _<_}
+-- `deck::walk::walk` meets its contract.
+-- Assumes nothing.
+use Prim.Native.Nat.{ℕ, _-_, _≤_, _<_}
 use mathlib.Core.Path.{_≡_, refl, sym, _∙_}
 use mathlib.Core.Bool.{true, false}
 use mathlib.Core.Logic.{⊎-elim}
@@ -11,14 +13,6 @@ use Rattle.deck.proofs.Walking.{left, test, Outer, Inner, outer-start, 
 use Rattle.deck.proofs.Ending.{ends-bad, ends-low, ends-all}
 use Rattle.deck.proofs.walk.walk.Statement.{statement}
 use Rattle.deck.proofs.walk.walk.Tie as tie
-use Rattle.deck.proofs.walk.walk.Reads as reads
-use Rattle.deck.proofs.walk.walk.Lts as lts
-use Rattle.deck.proofs.walk.bad_link.Reads as bad-link-reads
-use Rattle.deck.proofs.walk.bounds_after.Reads as bounds-after-reads
-use Rattle.deck.proofs.walk.exon_link.Reads as exon-link-reads
-use Rattle.deck.proofs.walk.first_unreached.Reads as first-unreached-reads
-use Rattle.deck.proofs.walk.link_of.Reads as link-of-reads
-use Rattle.deck.proofs.walk.next_link.Reads as next-link-reads
 
 abbrev Inv-loop : tie.InvT-loop
 Inv-loop d order₀ reached₀ n₀ broken₀ bad₀ from t b₀ link₀ order reached n broken bad b link = (broken ≡ false) × Inner d t reached₀ order reached n b link
@@ -67,113 +61,89 @@ through c =
     (λ w. let e : true ≡ false = sym (w .15) ∙ c .if4 .left in absurd (let z : _≡_ {A = ℕ} 0 1 = cc in omega arith)) v)
     (c .before .transcripts-test .came)
 
--- src/walk.rt:115:5
 array-write-reached : tie.Need-array-write-reached Inv-loop μ-loop Inv-transcripts μ-transcripts
 array-write-reached c = omega arith
 
--- src/walk.rt:120:9
 link-of-requires : tie.Need-link-of-requires Inv-loop μ-loop Inv-transcripts μ-transcripts
 link-of-requires c κs = omega arith
 
--- src/walk.rt:121:5
 transcripts-holds : tie.Need-transcripts-holds Inv-loop μ-loop Inv-transcripts μ-transcripts
 transcripts-holds c =
     let a = c .before .before .args in
     (refl, rw (c .link-of .ensures) (outer-start (now (a .d)) (now (a .order)) (c .before .before .pre .2) (omega arith) (set (replicate 4096 0) 0 1) (head-alone (now (a .d)) (now (a .order)) (c .before .before .pre .2) (omega arith))))
 
--- src/walk.rt:122:12
 bad-link-requires : tie.Need-bad-link-requires Inv-loop μ-loop Inv-transcripts μ-transcripts
 bad-link-requires c κs = omega arith
 
--- src/walk.rt:127:9
 array-write-reached-2 :
     tie.Need-array-write-reached-2 Inv-loop μ-loop Inv-transcripts μ-transcripts
 array-write-reached-2 c = let h = in-1 c in omega arith
 
--- src/walk.rt:128:20
 cast-order : tie.Need-cast-order Inv-loop μ-loop Inv-transcripts μ-transcripts
 cast-order c = let h = in-1 c in omega arith
 
--- src/walk.rt:128:9
 mul-order : tie.Need-mul-order Inv-loop μ-loop Inv-transcripts μ-transcripts
 mul-order c = let h = room-1 c in omega arith
 
--- src/walk.rt:128:9
 element-write-order : tie.Need-element-write-order Inv-loop μ-loop Inv-transcripts μ-transcripts
 element-write-order c = room-1 c
 
--- src/walk.rt:129:9
 add-n : tie.Need-add-n Inv-loop μ-loop Inv-transcripts μ-transcripts
 add-n c = let h = room-1 c in omega arith
 
--- src/walk.rt:131:43
 link-of-requires-2 : tie.Need-link-of-requires-2 Inv-loop μ-loop Inv-transcripts μ-transcripts
 link-of-requires-2 c κs = (in-1 c, omega arith)
 
--- src/walk.rt:131:13
 exon-link-requires : tie.Need-exon-link-requires Inv-loop μ-loop Inv-transcripts μ-transcripts
 exon-link-requires c κs = in-1 (c .before)
 
--- src/walk.rt:132:9
 loop-holds : tie.Need-loop-holds Inv-loop μ-loop Inv-transcripts μ-transcripts
 loop-holds c =
     let o = c .before .before .before .before .before .before .transcripts in
     let a = c .before .before .before .before .before .before .before .before .before .args in
     (o .inv .0, rw (c .exon-link .ensures, c .before .link-of2 .ensures) (inner-start (now (a .d)) (o .order) (o .reached) (o .n) (o .from) (o .t) (o .inv .1) (c .before .before .before .before .before .transcripts-test .taken) (test-1 (c .before .before)) (count (c .before .before .before .before .before .before .before .before .before))))
 
--- src/walk.rt:135:16
 bad-link-requires-2 : tie.Need-bad-link-requires-2 Inv-loop μ-loop Inv-transcripts μ-transcripts
 bad-link-requires-2 c κs = omega arith
 
--- src/walk.rt:140:13
 array-write-reached-3 :
     tie.Need-array-write-reached-3 Inv-loop μ-loop Inv-transcripts μ-transcripts
 array-write-reached-3 c = let h = in-2 c in omega arith
 
--- src/walk.rt:141:24
 cast-order-2 : tie.Need-cast-order-2 Inv-loop μ-loop Inv-transcripts μ-transcripts
 cast-order-2 c = let h = in-2 c in omega arith
 
--- src/walk.rt:141:13
 mul-order-2 : tie.Need-mul-order-2 Inv-loop μ-loop Inv-transcripts μ-transcripts
 mul-order-2 c = let h = room-2 c in omega arith
 
--- src/walk.rt:141:13
 element-write-order-2 :
     tie.Need-element-write-order-2 Inv-loop μ-loop Inv-transcripts μ-transcripts
 element-write-order-2 c = room-2 c
 
--- src/walk.rt:142:13
 add-n-2 : tie.Need-add-n-2 Inv-loop μ-loop Inv-transcripts μ-transcripts
 add-n-2 c = let h = room-2 c in omega arith
 
--- src/walk.rt:143:13
 next-link-requires : tie.Need-next-link-requires Inv-loop μ-loop Inv-transcripts μ-transcripts
 next-link-requires c κs = (c .before .before .before .before .before .loop .inv .1 .in-t, c .before .before .before .before .before .loop .inv .1 .in-b, in-2 c)
 
--- src/walk.rt:144:13
 bounds-after-requires :
     tie.Need-bounds-after-requires Inv-loop μ-loop Inv-transcripts μ-transcripts
 bounds-after-requires c κs = tt
 
--- src/walk.rt:132:9
 loop-less : tie.Need-loop-less Inv-loop μ-loop Inv-transcripts μ-transcripts
 loop-less c =
     let l = c .before .before .before .before .before .before .before .loop in
     let h = inner-fewer (now (c .before .before .before .before .before .before .before .before .before .before .before .before .before .before .before .before .before .args .d)) (c .before .before .before .before .before .before .before .before .before .before .before .before .before .before .transcripts .t) (set (c .before .before .before .before .before .before .before .before .before .before .before .before .before .before .transcripts .reached) (c .before .before .before .before .before .before .before .before .before .before .before .before .before .before .transcripts .t) 1) (l .order) (l .reached) (l .n) (l .b) (l .link) (l .inv .1) (c .before .before .before .before .before .if2 .taken) (test-2 (c .before .before)) (count (c .before .before .before .before .before .before .before .before .before .before .before .before .before .before .before .before .before)) in
     omega arith
 
--- src/walk.rt:132:9
 loop-again : tie.Need-loop-again Inv-loop μ-loop Inv-transcripts μ-transcripts
 loop-again c =
     let l = c .before .before .before .before .before .before .before .loop in
     (l .inv .0, rw (c .bounds-after .ensures, c .before .next-link .ensures) (inner-step (now (c .before .before .before .before .before .before .before .before .before .before .before .before .before .before .before .before .before .args .d)) (c .before .before .before .before .before .before .before .before .before .before .before .before .before .before .transcripts .t) (set (c .before .before .before .before .before .before .before .before .before .before .before .before .before .before .transcripts .reached) (c .before .before .before .before .before .before .before .before .before .before .before .before .before .before .transcripts .t) 1) (l .order) (l .reached) (l .n) (l .b) (l .link) (l .inv .1) (c .before .before .before .before .before .if2 .taken) (test-2 (c .before .before)) (count (c .before .before .before .before .before .before .before .before .before .before .before .before .before .before .before .before .before))))
 
--- src/walk.rt:147:9
 link-of-requires-3 : tie.Need-link-of-requires-3 Inv-loop μ-loop Inv-transcripts μ-transcripts
 link-of-requires-3 c κs = (c .before .before .loop .inv .1 .in-t, omega arith)
 
--- src/walk.rt:121:5
 transcripts-less : tie.Need-transcripts-less Inv-loop μ-loop Inv-transcripts μ-transcripts
 transcripts-less c =
     let l = c .before .before .before .loop in
@@ -183,13 +153,11 @@ transcripts-less c =
     let h = fewer (now (c .before .before .before .before .before .before .before .before .before .before .before .before .before .args .d)) 1 (o .t) (o .reached) (o .order) (o .n) (o .inv .1 .list) (o .inv .1 .held) (count (c .before .before .before .before .before .before .before .before .before .before .before .before .before)) (test-1 (c .before .before .before .before .before .before)) in
     omega (arith, f, h)
 
--- src/walk.rt:121:5
 transcripts-again : tie.Need-transcripts-again Inv-loop μ-loop Inv-transcripts μ-transcripts
 transcripts-again c =
     let l = c .before .before .before .loop in
     (l .inv .0, rw (c .link-of3 .ensures) (inner-end (now (c .before .before .before .before .before .before .before .before .before .before .before .before .before .args .d)) (c .before .before .before .before .before .before .before .before .before .before .transcripts .t) (set (c .before .before .before .before .before .before .before .before .before .before .transcripts .reached) (c .before .before .before .before .before .before .before .before .before .before .transcripts .t) 1) (l .order) (l .reached) (l .n) (l .b) (l .link) (l .inv .1) (c .before .if2 .left)))
 
--- src/walk.rt:150:9
 returns : tie.Need-returns Inv-loop μ-loop Inv-transcripts μ-transcripts
 returns c =
     let a = c .before .before .before .before .before .args in
@@ -199,12 +167,10 @@ returns c =
     (λ w. let l = w .6 in rw (w .16) (ends-bad (now (a .d)) (l .link .from) (c .before .transcripts-test .order) (inner-bad (now (a .d)) (o .t) (set (o .reached) (o .t) 1) (l .order) (l .reached) (l .n) (l .b) (l .link) (l .inv .1) (w .8 .taken) (sym (w .10 .ensures) ∙ w .11 .taken)) (l .inv .1 .in-from))) v)
     (c .before .transcripts-test .came)
 
--- src/walk.rt:153:9
 first-unreached-requires :
     tie.Need-first-unreached-requires Inv-loop μ-loop Inv-transcripts μ-transcripts
 first-unreached-requires c κs = omega arith
 
--- src/walk.rt:155:9
 returns-2 : tie.Need-returns-2 Inv-loop μ-loop Inv-transcripts μ-transcripts
 returns-2 c =
     let a = c .before .before .before .before .before .before .before .before .args in
@@ -212,7 +178,6 @@ returns-2 c =
     let e = through (c .before .before .before) in
     rw (e .0) (ends-low (now (a .d)) (o .reached) (o .order) (o .n) (o .inv .1 .list) (o .inv .1 .held) (outer-end (now (a .d)) (o .order) (o .reached) (o .n) (o .from) (o .t) (o .inv .1) (e .3)) (count (c .before .before .before .before .before .before .before .before)) (c .before .first-unreached .result) (rw (e .1) at (c .before .first-unreached .ensures)) (c .if5 .taken))
 
--- src/walk.rt:110:1
 returns-3 : tie.Need-returns-3 Inv-loop μ-loop Inv-transcripts μ-transcripts
 returns-3 c =
     let a = c .before .before .before .before .before .before .before .before .args in

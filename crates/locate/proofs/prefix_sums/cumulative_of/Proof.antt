@@ -12,7 +12,7 @@ use Rattle.locate.specs.Index.{cumulative}
 use Rattle.transcript.specs.Lent.{exonSize}
 use Rattle.transcript.proofs.Listed.{edges-at}
 use Rattle.locate.proofs.PrefixSums.{cumulative-first, sums-count, sums-next, sums-le}
-use Rattle.locate.proofs.Filling.{front, front-step, front-done}
+use Rattle.common.proofs.Filling.{front, front-step, front-done}
 use Rattle.locate.proofs.prefix_sums.cumulative_of.Statement.{statement}
 use Rattle.locate.proofs.prefix_sums.cumulative_of.Tie as tie
 

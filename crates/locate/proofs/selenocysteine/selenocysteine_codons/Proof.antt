@@ -12,7 +12,7 @@ use Rattle.transcript.specs.Orient.{orientBase}
 use Rattle.transcript.specs.Bases.{insideAny, basesIn}
 use Rattle.transcript.specs.Lent.{lentExons}
 use Rattle.locate.specs.Sums.{firstSum}
-use Rattle.locate.proofs.Filling.{front, front-step, front-done, map-at}
+use Rattle.common.proofs.Filling.{front, front-step, front-done, map-at}
 use Rattle.locate.proofs.CodedBases.{base-low, base-inside, ready-coded}
 use Rattle.locate.proofs.selenocysteine.selenocysteine_codons.Statement.{statement}
 use Rattle.locate.proofs.selenocysteine.selenocysteine_codons.Tie as tie

@@ -1,0 +1,152 @@
+// Transcripts in the table of a deck: rows one behind the other.
+use transcript::CdsBounds;
+use transcript::Exon;
+use transcript::Strand;
+use transcript::TranscriptModel;
+ghost use Prim.Native.Nat.{_+_, _≤_, _<_};
+ghost use mathlib.Core.Path.{_≡_};
+ghost use lib.ListN.{length};
+ghost use Rattle.transcript.specs.Transcript.{exonsOf};
+ghost use Rattle.deck.specs.Deck.{strandOf, startComplete, txBounds};
+ghost use Rattle.deck.specs.Table.{runEnd, boundsEnd, rowsAt, InOrder, boundsBetween, modelIn};
+
+// Where the exons of a transcript, its bounds, its segments and its selenocysteine bases end.
+pub struct Rows {
+    pub exons: usize,
+    pub bounds: usize,
+    pub segments: usize,
+    pub bases: usize,
+}
+
+// The row behind those of a kind, from a row on.
+fn run_end(kinds: &[u8; 4096], kind: u8, from: usize) -> usize
+    requires { ⌜ from ≤ 4096 ⌝ }
+    ensures { λ r. ⌜ (r ≡ runEnd (now (kinds .entry)) kind from) × (from ≤ r) × (r ≤ 4096) ⌝ }
+{
+    let mut i = from;
+    while i < 4096 {
+        if kinds[i] != kind {
+            return i;
+        }
+        i += 1;
+    }
+    i
+}
+
+// The row behind the bounds that may stand at a row.
+fn bounds_end(kinds: &[u8; 4096], at: usize) -> usize
+    requires { ⌜ at ≤ 4096 ⌝ }
+    ensures { λ r. ⌜ (r ≡ boundsEnd (now (kinds .entry)) at) × (at ≤ r) × (r ≤ 4096) ⌝ }
+{
+    if at == 4096 {
+        return at;
+    }
+    if kinds[at] == 2 {
+        return at + 1;
+    }
+    at
+}
+
+// The rows of the transcript at row k.
+pub fn rows_at(kinds: &[u8; 4096], k: usize) -> Rows
+    requires { ⌜ k < 4096 ⌝ }
+    ensures { λ r. ⌜ (r ≡ rowsAt (now (kinds .entry)) k) × InOrder k r ⌝ }
+{
+    let exons = run_end(kinds, 3, k + 1);
+    let bounds = bounds_end(kinds, exons);
+    let segments = run_end(kinds, 4, bounds);
+    let bases = run_end(kinds, 5, segments);
+    Rows {
+        exons,
+        bounds,
+        segments,
+        bases,
+    }
+}
+
+fn strand_of(mark: u8) -> Strand
+    ensures { λ r. ⌜ r ≡ strandOf mark ⌝ }
+{
+    if mark % 2 == 1 {
+        return Strand::Minus;
+    }
+    Strand::Plus
+}
+
+fn start_complete(mark: u8) -> bool
+    ensures { λ r. ⌜ r ≡ startComplete mark ⌝ }
+{
+    mark / 2 % 2 == 1
+}
+
+// The outer edges of the first and last exon.
+fn tx_bounds(starts: &[u64], ends: &[u64], strand: Strand) -> Exon
+    requires { ⌜ length (now starts) ≡ length (now ends) ⌝ }
+    ensures { λ r. ⌜ r ≡ txBounds strand (exonsOf (now (starts .entry)) (now (ends .entry))) ⌝ }
+{
+    let n = starts.len();
+    if n == 0 {
+        return Exon {
+            genomic_start: 0,
+            genomic_end: 0,
+        };
+    }
+    let last = n - 1;
+    match strand {
+        Strand::Plus => Exon {
+            genomic_start: starts[0],
+            genomic_end: ends[last],
+        },
+        Strand::Minus => Exon {
+            genomic_start: starts[last],
+            genomic_end: ends[0],
+        },
+    }
+}
+
+// The bounds behind the exons, if any stand there.
+fn bounds_in(starts: &[u64; 4096], ends: &[u64; 4096], exons: usize, bounds: usize) -> CdsBounds
+    requires { ⌜ (exons ≤ bounds) × (bounds ≤ 4096) ⌝ }
+    ensures { λ r. ⌜ r ≡ boundsBetween (now (starts .entry)) (now (ends .entry)) exons bounds ⌝ }
+{
+    if bounds == exons {
+        return CdsBounds::Neither;
+    }
+    CdsBounds::Both {
+        cds_genomic_start: starts[exons],
+        cds_genomic_end: ends[exons],
+    }
+}
+
+// The scalars of the transcript at row k.
+pub fn model_in(
+    marks: &[u8; 4096],
+    ids: &[u32; 4096],
+    numbers: &[u16; 4096],
+    starts: &[u64; 4096],
+    ends: &[u64; 4096],
+    k: usize,
+    rows: Rows,
+) -> TranscriptModel
+    requires { ⌜ InOrder k rows ⌝ }
+    ensures { λ r. ⌜ r ≡ modelIn (now (marks .entry)) (now (ids .entry)) (now (numbers .entry)) (now (starts .entry)) (now (ends .entry)) k rows ⌝ }
+{
+    let mark = marks[k];
+    let strand = strand_of(mark);
+    let from = k + 1;
+    let exons = rows.exons;
+    let all_starts = &starts[..];
+    let all_ends = &ends[..];
+    let edges = tx_bounds(&all_starts[from..exons], &all_ends[from..exons], strand);
+    let cds = bounds_in(starts, ends, exons, rows.bounds);
+    TranscriptModel {
+        id: ids[k],
+        chromosome: numbers[k],
+        strand,
+        exon_count: (exons - from) as u16,
+        tx_start: edges.genomic_start,
+        tx_end: edges.genomic_end,
+        cds,
+        cds_start_complete: start_complete(mark),
+    }
+}
