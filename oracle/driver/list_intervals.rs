@@ -1,10 +1,10 @@
 //! List 4: `classify_flank`, `exonic_splice_spill` and
 //! `frameshift_intron_endpoint` on intervals and insertions.
 
-use super::answer::{Subject, interval};
-use super::record::{QUERY_LIMIT, Tx, put_answers};
+use super::answer::{answered, interval};
+use super::record::{QUERY_LIMIT, Tx};
 use super::rng::Rng;
-use super::shape::{plain, random_cds, random_plain};
+use super::shape::{either_order, plain, random_cds, random_plain};
 
 pub fn list() -> Vec<u8> {
     let mut rng = Rng::new(4);
@@ -36,17 +36,12 @@ pub fn list() -> Vec<u8> {
         }
         all.push(tx);
     }
-    let mut out = Vec::new();
-    for tx in all {
-        let asked = intervals_asked(&mut rng, &tx);
-        let subject = Subject::new(tx);
-        let answers: Vec<Vec<u8>> = asked
+    answered(all, |subject| {
+        intervals_asked(&mut rng, &subject.tx)
             .into_iter()
-            .map(|(s, e)| interval(&subject, s, e))
-            .collect();
-        put_answers(&mut out, &subject.tx.encode(), &answers);
-    }
-    out
+            .map(|(start, end)| interval(subject, start, end))
+            .collect()
+    })
 }
 
 /// Two and three exons around a gap of each size from 0 to 15, the middle one
@@ -59,11 +54,7 @@ fn each_gap(rng: &mut Rng, all: &mut Vec<Tx>) {
             all.push(plain(all.len() as u32, chrom, minus, low, &[8, 8], &[gap]));
             let middle = rng.pick(&[1, 1, 2, 3]);
             let other = rng.pick(&[1, 1, 2, 13, 14, 0]);
-            let gaps = if rng.chance(50) {
-                [gap, other]
-            } else {
-                [other, gap]
-            };
+            let gaps = either_order(rng, gap, other);
             all.push(plain(
                 all.len() as u32,
                 chrom,

@@ -1,10 +1,10 @@
 //! List 2: `locate_variant` at single bases.
 
-use super::answer::Subject;
+use super::answer::answered;
 use super::place::put_place;
-use super::record::{QUERY_LIMIT, Tx, put_answers, put32};
+use super::record::{QUERY_LIMIT, Tx, put32};
 use super::rng::Rng;
-use super::shape::{exonic, plain, random_cds, random_plain, set_cds};
+use super::shape::{either_order, exonic, plain, random_cds, random_plain, set_cds};
 
 pub fn list() -> Vec<u8> {
     let mut rng = Rng::new(2);
@@ -22,11 +22,8 @@ pub fn list() -> Vec<u8> {
     for minus in [false, true] {
         all.push(longest(&mut rng, 100 + all.len() as u32, minus));
     }
-    let mut out = Vec::new();
-    for tx in all {
-        let bases = bases_asked(&mut rng, &tx);
-        let subject = Subject::new(tx);
-        let answers: Vec<Vec<u8>> = bases
+    answered(all, |subject| {
+        bases_asked(&mut rng, &subject.tx)
             .into_iter()
             .map(|base| {
                 let mut answer = Vec::new();
@@ -34,10 +31,8 @@ pub fn list() -> Vec<u8> {
                 put_place(&mut answer, &subject.place(base));
                 answer
             })
-            .collect();
-        put_answers(&mut out, &subject.tx.encode(), &answers);
-    }
-    out
+            .collect()
+    })
 }
 
 /// Three exons around one gap of each size from 0 to 44 and one of another
@@ -49,11 +44,7 @@ fn each_gap(rng: &mut Rng, all: &mut Vec<Tx>) {
                 let middle = rng.pick(&[1, 2, 3, 5, 7]);
                 let other = rng.pick(&[0, 1, 2, 3, 12, 13, 14, 18, 24, 25, 26]);
                 let lens = [rng.between(4, 9), middle, rng.between(4, 9)];
-                let gaps = if rng.chance(50) {
-                    [gap, other]
-                } else {
-                    [other, gap]
-                };
+                let gaps = either_order(rng, gap, other);
                 let low = rng.between(6_000, 9_000);
                 let chrom = rng.between(1, 25) as u16;
                 let mut tx = plain(100 + all.len() as u32, chrom, minus, low, &lens, &gaps);

@@ -128,6 +128,15 @@ pub fn gap_length(rng: &mut Rng) -> u32 {
     }
 }
 
+/// The two gaps, or the second before the first.
+pub fn either_order(rng: &mut Rng, one: u32, two: u32) -> [u32; 2] {
+    if rng.chance(50) {
+        [one, two]
+    } else {
+        [two, one]
+    }
+}
+
 /// The lowest base of a transcript of this span: mostly small, sometimes 0,
 /// sometimes so that the end is at or near the limit.
 pub fn low_base(rng: &mut Rng, span: u32) -> u32 {

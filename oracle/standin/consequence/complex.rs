@@ -19,14 +19,4 @@ pub(super) fn annotate_mnv(
     unreachable!("the oracle answers single bases only")
 }
 
-pub(super) fn annotate_complex_delins(
-    _chrom: &str,
-    _pos: u64,
-    _reference: &[u8],
-    _alternate: &[u8],
-    _transcript: &TranscriptModel,
-    _index: &LocateIndex,
-    _fasta: &FastaReader,
-) -> Result<ConsequenceResult, VarEffectError> {
-    unreachable!("the oracle answers single bases only")
-}
+pub(super) use annotate_mnv as annotate_complex_delins;
