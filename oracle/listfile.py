@@ -3,13 +3,11 @@
 import collections
 import struct
 
-# Where each list stands, from the directory of the crates.
-LISTS = {
-    "index": "replay_index/stdin",
-    "places": "replay_places/stdin",
-    "calls": "replay_calls/stdin",
-    "intervals": "replay_intervals/stdin",
-}
+# Where the file of all lists stands, from the directory of the crates.
+FILE = "replay/stdin"
+
+# The lists in the order of the file; a block's kind is its list's place here.
+LISTS = ["index", "places", "intervals", "calls"]
 
 KINDS = ["Upstream", "Downstream", "Distal", "FivePrimeUtr", "CdsExon", "ThreePrimeUtr",
          "SpliceDonor", "SpliceAcceptor", "SpliceRegion", "Intron", "FrameshiftIntron",
@@ -141,12 +139,20 @@ def read_block(name, data):
     return t, window, answers
 
 
-def read_list(name, path):
+def split(path):
+    """The blocks of each list, as they stand in the file."""
+    lists = {name: [] for name in LISTS}
     data, at = path.read_bytes(), 0
     while at < len(data):
-        assert at + 4 <= len(data), "the list ends inside a length"
-        length = struct.unpack_from("<I", data, at)[0]
-        assert length <= 65532, "a block is too long"
-        assert at + 4 + length <= len(data), "the list ends inside a block"
-        yield read_block(name, data[at + 4:at + 4 + length])
+        assert at + 5 <= len(data), "the file ends before a kind"
+        length, kind = struct.unpack_from("<IB", data, at)
+        assert 1 <= length <= 65532, "a block is empty or too long"
+        assert at + 4 + length <= len(data), "the file ends inside a block"
+        assert kind < len(LISTS), "a block of an unknown kind"
+        lists[LISTS[kind]].append(data[at:at + 4 + length])
         at += 4 + length
+    return lists
+
+
+def read_list(name, blocks):
+    return (read_block(name, block[5:]) for block in blocks)

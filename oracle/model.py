@@ -11,7 +11,7 @@ import sys
 
 sys.dont_write_bytecode = True
 from call_model import call, flank, short_intron, spill
-from listfile import KINDS, LISTS, NONE, Index, Interval, Place, read_list
+from listfile import FILE, KINDS, NONE, Index, Interval, Place, read_list, split
 
 LIMIT = 1_000_000_000
 REACH, DONOR, ACCEPTOR, SHORT = 5000, 8, 17, 13
@@ -194,9 +194,9 @@ def main():
     here = pathlib.Path(__file__).resolve().parent
     crates = pathlib.Path(sys.argv[1]) if len(sys.argv) > 1 else here.parent / "crates"
     total = 0
-    for name, place in LISTS.items():
+    for name, listed in split(crates / FILE).items():
         asked = found = 0
-        for t, window, answers in read_list(name, crates / place):
+        for t, window, answers in read_list(name, listed):
             asked += len(answers)
             for question, ours, theirs in differences(name, t, window, answers):
                 found += 1

@@ -1,6 +1,6 @@
 //! A transcript put to the Rust, and the bytes of its index and of an interval.
 
-use super::record::{Tx, put_answers, put16, put32};
+use super::record::{Kind, Tx, put_answers, put16, put32};
 use crate::error::VarEffectError;
 use crate::locate::helpers::{exonic_splice_spill, frameshift_intron_endpoint};
 use crate::locate::{Flank, LocateIndex, VariantLocation, classify_flank, locate_variant};
@@ -34,11 +34,15 @@ impl Subject {
 }
 
 /// The blocks of the transcripts, each with its answers.
-pub fn answered(all: Vec<Tx>, mut answers: impl FnMut(&Subject) -> Vec<Vec<u8>>) -> Vec<u8> {
+pub fn answered(
+    kind: Kind,
+    all: Vec<Tx>,
+    mut answers: impl FnMut(&Subject) -> Vec<Vec<u8>>,
+) -> Vec<u8> {
     let mut out = Vec::new();
     for tx in all {
         let subject = Subject::new(tx);
-        put_answers(&mut out, &subject.tx.encode(), &answers(&subject));
+        put_answers(&mut out, kind, &subject.tx.encode(), &answers(&subject));
     }
     out
 }

@@ -1,9 +1,9 @@
-//! List 3: `annotate_snv_verified` over a window.
+//! Calls: `annotate_snv_verified` over a window.
 
 use super::answer::Subject;
 use super::bases::fill;
 use super::call::{call, window};
-use super::record::{Tx, put_answers, put16, put32};
+use super::record::{Kind, Tx, put_answers, put16, put32};
 use super::rng::Rng;
 use super::shape::{
     add_sec, coding_bases, exonic, gap_length, low_base, plain, random_cds, set_cds,
@@ -253,5 +253,5 @@ fn put_calls(out: &mut Vec<u8>, subject: &Subject, fasta: &FastaReader, answers:
     put32(&mut head, fasta.first as u32);
     put32(&mut head, fasta.bytes.len() as u32);
     head.extend_from_slice(&fasta.bytes);
-    put_answers(out, &head, answers);
+    put_answers(out, Kind::Calls, &head, answers);
 }

@@ -1,7 +1,7 @@
-//! List 1: `LocateIndex::build` and its refusals.
+//! Index: `LocateIndex::build` and its refusals.
 
 use super::answer::put_index;
-use super::record::{COORDINATE_LIMIT, Segment, Tx, put_block};
+use super::record::{COORDINATE_LIMIT, Kind, Segment, Tx, put_block};
 use super::rng::Rng;
 use super::shape::{
     add_sec, coding_bases, intersections, plain, random_cds, random_plain, set_cds,
@@ -48,7 +48,7 @@ pub fn list() -> Vec<u8> {
     for tx in &all {
         let mut rest = tx.encode();
         put_index(&mut rest, &LocateIndex::build(&tx.model()));
-        put_block(&mut out, &rest);
+        put_block(&mut out, Kind::Index, &rest);
     }
     out
 }

@@ -1,8 +1,8 @@
-//! List 4: `classify_flank`, `exonic_splice_spill` and
+//! Intervals: `classify_flank`, `exonic_splice_spill` and
 //! `frameshift_intron_endpoint` on intervals and insertions.
 
 use super::answer::{answered, interval};
-use super::record::{QUERY_LIMIT, Tx};
+use super::record::{Kind, QUERY_LIMIT, Tx};
 use super::rng::Rng;
 use super::shape::{either_order, plain, random_cds, random_plain};
 
@@ -36,7 +36,7 @@ pub fn list() -> Vec<u8> {
         }
         all.push(tx);
     }
-    answered(all, |subject| {
+    answered(Kind::Intervals, all, |subject| {
         intervals_asked(&mut rng, &subject.tx)
             .into_iter()
             .map(|(start, end)| interval(subject, start, end))

@@ -1,8 +1,8 @@
-//! List 2: `locate_variant` at single bases.
+//! Places: `locate_variant` at single bases.
 
 use super::answer::answered;
 use super::place::put_place;
-use super::record::{QUERY_LIMIT, Tx, put32};
+use super::record::{Kind, QUERY_LIMIT, Tx, put32};
 use super::rng::Rng;
 use super::shape::{either_order, exonic, plain, random_cds, random_plain, set_cds};
 
@@ -22,7 +22,7 @@ pub fn list() -> Vec<u8> {
     for minus in [false, true] {
         all.push(longest(&mut rng, 100 + all.len() as u32, minus));
     }
-    answered(all, |subject| {
+    answered(Kind::Places, all, |subject| {
         bases_asked(&mut rng, &subject.tx)
             .into_iter()
             .map(|base| {

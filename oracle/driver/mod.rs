@@ -1,4 +1,4 @@
-//! Asks the Rust: makes the four lists of its answers, or answers in plain text.
+//! Asks the Rust: lists its answers of each kind, or answers in plain text.
 
 mod answer;
 mod ask;
@@ -21,11 +21,11 @@ pub fn run() -> ExitCode {
     let done = match arguments.first().map(String::as_str) {
         Some("index") => write(&list_index::list()),
         Some("places") => write(&list_places::list()),
-        Some("calls") => write(&list_calls::list()),
         Some("intervals") => write(&list_intervals::list()),
+        Some("calls") => write(&list_calls::list()),
         Some("ask") if arguments.len() > 1 => ask::answer_all(arguments.into_iter().skip(1)),
         Some("ask") => ask::answer_all(std::io::stdin().lines().map_while(Result::ok)),
-        _ => Err("usage: oracle index | places | calls | intervals | ask [LINE ...]".to_string()),
+        _ => Err("usage: oracle index | places | intervals | calls | ask [LINE ...]".to_string()),
     };
     match done {
         Ok(()) => ExitCode::SUCCESS,

@@ -7,6 +7,15 @@ pub const COORDINATE_LIMIT: u32 = 1_000_000_000;
 /// The limit of document 01 on start and end of a query.
 pub const QUERY_LIMIT: u32 = 1_000_010_000;
 
+/// The first byte of a block; `LISTS` of listfile.py has the same order.
+#[derive(Clone, Copy)]
+pub enum Kind {
+    Index,
+    Places,
+    Intervals,
+    Calls,
+}
+
 #[derive(Clone)]
 pub struct Segment {
     pub phase: u8,
@@ -133,20 +142,24 @@ pub fn put32(out: &mut Vec<u8>, number: u32) {
     out.extend_from_slice(&number.to_le_bytes());
 }
 
-/// Appends one block: the length of the rest, then the rest.
-pub fn put_block(out: &mut Vec<u8>, rest: &[u8]) {
-    assert!(rest.len() <= 65_532, "a block has at most 65,536 bytes");
-    put32(out, rest.len() as u32);
+/// The most bytes of a block behind its kind: with kind and length 65,536.
+const ROOM: usize = 65_531;
+
+/// Appends one block: the length of what follows, the kind, the rest.
+pub fn put_block(out: &mut Vec<u8>, kind: Kind, rest: &[u8]) {
+    assert!(rest.len() <= ROOM, "the block is too long");
+    put32(out, rest.len() as u32 + 1);
+    out.push(kind as u8);
     out.extend_from_slice(rest);
 }
 
 /// Appends blocks of `head`, a count, and that many answers of equal length,
 /// as many blocks as the answers need.
-pub fn put_answers(out: &mut Vec<u8>, head: &[u8], answers: &[Vec<u8>]) {
+pub fn put_answers(out: &mut Vec<u8>, kind: Kind, head: &[u8], answers: &[Vec<u8>]) {
     let Some(first) = answers.first() else {
         return;
     };
-    let room = (65_532 - head.len() - 4) / first.len();
+    let room = (ROOM - head.len() - 4) / first.len();
     for part in answers.chunks(room) {
         let mut rest = head.to_vec();
         put32(&mut rest, part.len() as u32);
@@ -154,6 +167,6 @@ pub fn put_answers(out: &mut Vec<u8>, head: &[u8], answers: &[Vec<u8>]) {
             assert_eq!(answer.len(), first.len());
             rest.extend_from_slice(answer);
         }
-        put_block(out, &rest);
+        put_block(out, kind, &rest);
     }
 }

@@ -1,11 +1,22 @@
 // Places as the lists have them: 16 bytes.
-use super::PlaceRow;
-use super::numbers::byte_at;
-use super::numbers::u16_at;
-use super::numbers::u32_at;
+use crate::numbers::byte_at;
+use crate::numbers::u16_at;
+use crate::numbers::u32_at;
 use locate::SpliceSide;
 use locate::VariantLocation;
 ghost use Prim.Native.Nat.{_≤_, _<_};
+
+// The columns of a place: its case in the order of declaration, the splice mark or the acceptor side, the exon or intron, and what
+// else the case has.
+struct PlaceRow {
+    kind: u64,
+    mark: bool,
+    index: u64,
+    distance: i64,
+    segment: u64,
+    position: u64,
+    number: u64,
+}
 
 // A four-byte number with its sign.
 fn signed_of(x: u64) -> i64
@@ -106,7 +117,7 @@ fn row_of(place: VariantLocation) -> PlaceRow {
 }
 
 // Whether the place is the one that stands from `at` on.
-pub fn same_place(b: &[u8], at: usize, place: VariantLocation) -> bool
+pub(crate) fn same_place(b: &[u8], at: usize, place: VariantLocation) -> bool
     requires { ⌜ at ≤ 800000 ⌝ }
 {
     let r = row_of(place);

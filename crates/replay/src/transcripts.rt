@@ -1,14 +1,24 @@
 // The transcript at the head of a block.
-use super::Head;
-use super::numbers::byte_at;
-use super::numbers::u16_at;
-use super::numbers::u32_at;
+use crate::numbers::byte_at;
+use crate::numbers::u16_at;
+use crate::numbers::u32_at;
 use transcript::CdsBounds;
 use transcript::Strand;
 use transcript::TranscriptModel;
 ghost use Prim.Native.Nat.{_≤_, _<_};
 ghost use mathlib.Core.Path.{_≡_};
 ghost use lib.ListN.{length};
+
+// The scalars of a transcript, how many elements its lists have, and where they start; `end` is past the last list.
+pub(crate) struct Head {
+    pub model: TranscriptModel,
+    pub exons: usize,
+    pub segments: usize,
+    pub bases: usize,
+    pub segments_at: usize,
+    pub bases_at: usize,
+    pub end: usize,
+}
 
 fn least(a: u64, b: u64) -> usize
     ensures { λ r. ⌜ r ≤ b ⌝ }
@@ -50,7 +60,7 @@ fn model_of(b: &[u8]) -> TranscriptModel {
 }
 
 // Lists longer than the limits are cut to them.
-pub fn head_of(b: &[u8]) -> Head
+pub(crate) fn head_of(b: &[u8]) -> Head
     ensures { λ r. ⌜ (r .exons ≤ 512) × (r .segments ≤ 512) × (r .bases ≤ 64) × (r .«segments_at» ≤ 5000) × (r .«bases_at» ≤ 11000) × (r .end ≤ 12000) ⌝ }
 {
     let model = model_of(b);
@@ -71,7 +81,7 @@ pub fn head_of(b: &[u8]) -> Head
 }
 
 // The first n of the numbers that stand `step` bytes apart from `at` on, then zeros.
-pub fn words(b: &[u8], at: usize, step: usize, n: usize) -> [u64; 512]
+pub(crate) fn words(b: &[u8], at: usize, step: usize, n: usize) -> [u64; 512]
     requires { ⌜ (at ≤ 12000) × (step ≤ 12) × (n ≤ 512) ⌝ }
     ensures { λ r. ⌜ 512 ≡ length r ⌝ }
 {
@@ -86,7 +96,7 @@ pub fn words(b: &[u8], at: usize, step: usize, n: usize) -> [u64; 512]
     out
 }
 
-pub fn halves(b: &[u8], at: usize, step: usize, n: usize) -> [u16; 512]
+pub(crate) fn halves(b: &[u8], at: usize, step: usize, n: usize) -> [u16; 512]
     requires { ⌜ (at ≤ 12000) × (step ≤ 12) × (n ≤ 512) ⌝ }
     ensures { λ r. ⌜ 512 ≡ length r ⌝ }
 {
@@ -101,7 +111,7 @@ pub fn halves(b: &[u8], at: usize, step: usize, n: usize) -> [u16; 512]
     out
 }
 
-pub fn octets(b: &[u8], at: usize, step: usize, n: usize) -> [u8; 512]
+pub(crate) fn octets(b: &[u8], at: usize, step: usize, n: usize) -> [u8; 512]
     requires { ⌜ (at ≤ 12000) × (step ≤ 12) × (n ≤ 512) ⌝ }
     ensures { λ r. ⌜ 512 ≡ length r ⌝ }
 {
