@@ -1,13 +1,19 @@
 //! Asks the Rust: lists its answers of each kind, or answers in plain text.
 
+mod admission;
 mod answer;
 mod ask;
 mod bases;
 mod call;
+mod call_line;
+mod deck;
+mod deck_record;
 mod list_calls;
 mod list_index;
 mod list_intervals;
 mod list_places;
+mod listing;
+mod listing_line;
 mod place;
 mod record;
 mod rng;
@@ -25,7 +31,12 @@ pub fn run() -> ExitCode {
         Some("calls") => write(&list_calls::list()),
         Some("ask") if arguments.len() > 1 => ask::answer_all(arguments.into_iter().skip(1)),
         Some("ask") => ask::answer_all(std::io::stdin().lines().map_while(Result::ok)),
-        _ => Err("usage: oracle index | places | intervals | calls | ask [LINE ...]".to_string()),
+        Some("listing") if arguments.len() == 3 => listing::run(&arguments[1], &arguments[2]),
+        _ => Err(
+            "usage: oracle index | places | intervals | calls | ask [LINE ...] \
+                  | listing DECK WINDOW"
+                .to_string(),
+        ),
     };
     match done {
         Ok(()) => ExitCode::SUCCESS,
