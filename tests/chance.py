@@ -103,3 +103,21 @@ def good(rng, most_calls=30, change=None):
     seen = chromosome if rng.random() < 0.97 else rng.randrange(65536)
     text = calls(rng, chromosome, first, bases, transcripts, rng.randrange(most_calls + 1))
     return deck, writer.window(seen, first, bases), text
+
+
+def large(rng):
+    """Many transcripts or many calls, and files as long as they may be, or one
+    byte longer."""
+    deck, window, lines = good(rng, 3)
+    if rng.random() < 0.5:
+        found, low = [], rng.randrange(3000)
+        while len(writer.deck(found)) < rng.choice([8_000, 65_000]):
+            found += [transcript(rng, len(found), 1, low + rng.randrange(2000)) for _ in range(20)]
+        deck = shuffled(rng, writer.deck(found))
+    over = rng.randrange(2)
+    if rng.random() < 0.5:
+        window = (window + rng.randbytes(65_536))[:65_536 + over]
+    else:
+        lines = (lines * 65_536 + b"1 5 A\n" * 11_000)[:65_535 + over] + b"\n"
+        deck = good(rng)[0]
+    return deck, window, lines

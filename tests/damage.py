@@ -104,6 +104,8 @@ def noisy_deck(rng):
 def sample(rng):
     """A kind and an input of it: deck, window, calls."""
     kind = rng.choice(["good", "good", "broken", "noise", "noisy deck", "truncated", "bits", "fields"])
+    if rng.random() < 0.004:
+        return "large", chance.large(rng)
     change = broken if kind == "broken" else None
     deck, window, calls = chance.good(rng, change=change)
     if kind == "noise":
