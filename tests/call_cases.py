@@ -1,5 +1,6 @@
 """Call lines: 26, refusals 14 to 21, and answered calls on both strands."""
 
+import itertools
 import random
 
 import chance
@@ -125,6 +126,7 @@ def cases():
     yield Case("window-high", "a window that begins at 2^64 - 1", deck(EXAMPLE), window(1, 2**64 - 1), CALLS, "1 7 17")
     yield from strands()
     yield from odd_bytes()
-    for i in range(4):
-        files = chance.good(random.Random(f"case {i}"), 60)
+    inputs = (chance.good(random.Random(f"case {i}"), 60) for i in itertools.count())
+    rich = (files for files in inputs if len(files[0]) > 300 and len(files[1]) > 300 and len(files[2]) > 300)
+    for i, files in enumerate(itertools.islice(rich, 6), 1):
         yield Case(f"chance-{i}", "a random deck, its records in random order", *files)

@@ -61,11 +61,14 @@ def malformed(rng, line):
 def calls(rng, chromosome, first, bases, transcripts, count):
     """Lines about places near the transcripts, some of them refused."""
     lines = []
-    edges = [edge for t in transcripts for exon in t.exons for edge in exon] or [first]
+    exons = [exon for t in transcripts for exon in t.exons if exon[0] < exon[1]] or [(first, first + 1)]
     for _ in range(count):
+        exon = rng.choice(exons)
+        edge = rng.choice(exon)
         position = max(0, rng.choice([
-            first + rng.randrange(len(bases) + 1), rng.choice(edges) + rng.randint(-4, 4),
-            rng.choice(edges) + rng.randint(-40, 40), rng.choice(edges) + rng.choice([-1, 1]) * rng.randint(4990, 5100)]))
+            rng.randrange(*exon), rng.randrange(*exon), rng.randrange(*exon), edge + rng.randint(-4, 4),
+            edge + rng.randint(-40, 40), edge + rng.choice([-1, 1]) * rng.randint(4990, 5100),
+            first + rng.randrange(len(bases) + 1)]))
         inside = first <= position < first + len(bases)
         ref, alt, own = bases[position - first] if inside else 65, rng.choice(b"ACGT"), chromosome
         trick = rng.randrange(40)
@@ -95,7 +98,7 @@ def good(rng, most_calls=30, change=None):
         transcripts.append(transcript(rng, rng.randrange(2**32), own, low + rng.randrange(300)))
     past = max(max(exon) for t in transcripts for exon in t.exons)
     first = max(0, low + rng.randint(-20, 60))
-    length = rng.choice([0, 1, rng.randrange(200), past - low + 60])
+    length = rng.choice([0, rng.randrange(200), *[past - low + 60] * 4])
     bases = bytes(rng.choice(ODD) if rng.random() < 0.05 else rng.choice(b"ACGT") for _ in range(length))
     if change:
         change(rng, rng.choice(transcripts))

@@ -61,6 +61,12 @@ def links():
     yield "link-first", "a bad link and an unreached record: the link", patch(stray, 13, 2, 2), 13
     yield "exons-first", "bad links in an exon, in the bounds and in the transcript: the exon's", \
         patch(patch(patch(GOOD, 3, 2, 77), 4, 12, 77), 1, 2, 77), 3
+    yield "exons-before-bounds", "bad links in an exon and in the transcript's bounds: the exon's", \
+        patch(patch(GOOD, 3, 2, 77), 1, 12, 77), 3
+    yield "bounds-before-next", "bad links in the transcript, to its bounds and to the next, and in a later exon", \
+        patch(patch(patch(GOOD, 1, 12, 3), 1, 2, 77), 9, 2, 77), 1
+    yield "selenocysteine-first", "bad links in a selenocysteine base and in the transcript's next: the base's", \
+        patch(patch(GOOD, 13, 2, 77), 7, 2, 77), 13
     yield "bounds-first", "bad links in a segment and in the transcript's next: the segment's", \
         patch(patch(GOOD, 6, 2, 77), 1, 2, 77), 6
     yield "segments-first", "both links of the bounds and a segment's: the segment's", \
