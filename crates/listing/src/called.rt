@@ -1,0 +1,66 @@
+// A call on one transcript of a deck's table, and its line.
+use crate::Written;
+use crate::answer::write_answer;
+use crate::line::write_refusal;
+use consequence::Call;
+use consequence::Called;
+use consequence::annotate_snv;
+use deck::rows::Rows;
+use deck::rows::model_in;
+ghost use mathlib.Core.Path.{_≡_};
+ghost use Rattle.footprint.specs.Ranges.{sourceRanges};
+ghost use Rattle.consequence.specs.Call.{annotateSnv};
+ghost use Rattle.deck.specs.Table.{InOrder, transcriptIn};
+ghost use Rattle.listing.specs.Line.{calledLine, writeAnswer, writtenTo};
+
+// The answer to a call on the transcript at row k.
+pub(crate) fn call_at(
+    window_chromosome: u16,
+    window_first: u64,
+    window: &[u8],
+    call: Call,
+    marks: &[u8; 4096],
+    ids: &[u32; 4096],
+    numbers: &[u16; 4096],
+    starts: &[u64; 4096],
+    ends: &[u64; 4096],
+    k: usize,
+    rows: Rows,
+) -> Called
+    requires { ⌜ InOrder k rows ⌝ }
+    ensures { λ r. ⌜ r ≡ annotateSnv sourceRanges (transcriptIn (now (marks .entry)) (now (ids .entry)) (now (numbers .entry)) (now (starts .entry)) (now (ends .entry)) k rows) (record { chromosome = «window_chromosome»; first = «window_first»; bytes = now (window .entry) }) call ⌝ }
+{
+    let from = k + 1;
+    let exons = rows.exons;
+    let bounds = rows.bounds;
+    let segments = rows.segments;
+    let bases = rows.bases;
+    let all_marks = &marks[..];
+    let all_numbers = &numbers[..];
+    let all_starts = &starts[..];
+    let all_ends = &ends[..];
+    annotate_snv(
+        window_chromosome,
+        window_first,
+        window,
+        call,
+        model_in(marks, ids, numbers, starts, ends, k, rows),
+        &all_starts[from..exons],
+        &all_ends[from..exons],
+        &all_marks[bounds..segments],
+        &all_numbers[bounds..segments],
+        &all_starts[bounds..segments],
+        &all_ends[bounds..segments],
+        &all_starts[segments..bases],
+    )
+}
+
+// The line of a call's answer, or 28 where it does not fit.
+pub(crate) fn write_called(out: &mut [u8], number: u64, id: u64, called: Called) -> Written
+    ensures { λ r. ⌜ (r ≡ writeAnswer (now (out .entry)) (calledLine number id called)) × (now (out .exit) ≡ writtenTo (now (out .entry)) (calledLine number id called)) ⌝ }
+{
+    match called {
+        Called::Answered(x) => write_answer(out, number, id, x),
+        Called::Refused(refusal) => write_refusal(out, number, id, refusal as u64),
+    }
+}
