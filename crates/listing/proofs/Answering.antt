@@ -1,7 +1,7 @@
 -- One call on the transcript at a row, and the cursor behind it.
 -- Assumes nothing.
 use Prim.Native.Nat.{ℕ, _+_, _≤_, _<_}
-use mathlib.Core.Path.{_≡_, refl, sym, _∙_}
+use mathlib.Core.Path.{_≡_, refl, sym, _∙_, ap}
 use mathlib.Core.Bool.{Bool, true, false}
 use mathlib.Core.List.{List}
 use lib.ListN.{getD}
@@ -16,13 +16,15 @@ use Rattle.consequence.specs.declared.Called.the-variants.{Answered, Refused}
 use Rattle.consequence.specs.declared.ConsequenceResult.{ConsequenceResult}
 use Rattle.consequence.specs.Window.{Window}
 use Rattle.consequence.specs.Call.{annotateSnv}
+use Rattle.deck.specs.declared.DeckTable.{DeckTable}
 use Rattle.deck.specs.declared.rows.Rows.{Rows}
 use Rattle.deck.specs.Table.{isKind, rowsAt, part, modelIn, transcriptIn}
 use Rattle.listing.specs.declared.Cursor.{Cursor}
 use Rattle.listing.specs.declared.Written.{Written}
 use Rattle.listing.specs.declared.Listed.{Listed}
+use Rattle.listing.specs.declared.Listed.the-variants.{End}
 use Rattle.listing.specs.Line.{answerLine, refusalLine, calledLine, writeAnswer, writtenTo}
-use Rattle.listing.specs.Steps.{behindTranscript, listed}
+use Rattle.listing.specs.Steps.{Next, line, ended, behindTranscript, rowLine, nextCalled, listed, listedAs, listedTo}
 
 module _ (marks ids numbers starts ends : List ℕ) (k : ℕ) (r : Rows) (w : Window) (q : Call) where
   pub call-made : {m : TranscriptModel} {a : Called} → m ≡ modelIn marks ids numbers starts ends k r
@@ -60,3 +62,24 @@ module _ (out after : List ℕ) (number id : ℕ) {v : Called} {r : Written} whe
 
 pub listed-by : {v w : Written} (next : Cursor) → v ≡ w → listed w next ≡ listed v next
 listed-by next e = rw e
+
+-- the line of one call for the transcript at the cursor
+module _ (t : DeckTable) (w : Window) (c behind : Cursor) (q : Call) {s : Bool} (e : s ≡ isKind (t .kinds) 1 (c .row)) where
+  pub called-none : s ≡ false → nextCalled t w c behind q ≡ ended
+  unfolding nextCalled
+  called-none h = rw (sym e, h)
+
+  pub called-line : {rows : Rows} {a : Called} {next : Cursor} → s ≡ true → rows ≡ rowsAt (t .kinds) (c .row)
+      → a ≡ annotateSnv sourceRanges (transcriptIn (t .marks) (t .ids) (t .numbers) (t .starts) (t .ends) (c .row) rows) w q
+      → (rows .bases ≡ rowsAt (t .kinds) (c .row) .bases → next ≡ behindTranscript (t .kinds) c behind)
+      → nextCalled t w c behind q ≡ line (calledLine (c .number) (getD (t .ids) (c .row) 0) a) next
+  unfolding nextCalled rowLine transcriptIn modelIn
+  called-line h er ea en = rw (sym e, h, ea, er, en (ap (λ (x : Rows). x .bases) er))
+
+-- a line that was put into the buffer, or does not fit
+pub line-put : (out after l : List ℕ) (next : Cursor) {n : Next} {v : Written} {r : Listed} → n ≡ line l next
+    → (v ≡ writeAnswer out l) × (after ≡ writtenTo out l) → r ≡ listed v next → (r ≡ listedAs out n) × (after ≡ listedTo out n)
+line-put out after l next e h g = rw e (g ∙ listed-by next (sym (h .0)), h .1)
+
+pub nothing-put : (out : List ℕ) {n : Next} → n ≡ ended → (End ≡ listedAs out n) × (out ≡ listedTo out n)
+nothing-put out e = rw e (refl, refl)

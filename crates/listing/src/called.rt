@@ -56,11 +56,11 @@ pub(crate) fn call_at(
 }
 
 // The line of a call's answer, or 28 where it does not fit.
-pub(crate) fn write_called(out: &mut [u8], number: u64, id: u64, called: Called) -> Written
+pub(crate) fn write_called(out: &mut [u8], number: u64, id: u32, called: Called) -> Written
     ensures { λ r. ⌜ (r ≡ writeAnswer (now (out .entry)) (calledLine number id called)) × (now (out .exit) ≡ writtenTo (now (out .entry)) (calledLine number id called)) ⌝ }
 {
     match called {
-        Called::Answered(x) => write_answer(out, number, id, x),
-        Called::Refused(refusal) => write_refusal(out, number, id, refusal as u64),
+        Called::Answered(x) => write_answer(out, number, id as u64, x),
+        Called::Refused(refusal) => write_refusal(out, number, id as u64, refusal as u64),
     }
 }

@@ -47,3 +47,100 @@ fn line_listed(w: Written, next: Cursor) -> Listed
         Written::Refused(number) => Listed::Refused(number),
     }
 }
+
+// The line of one call for the transcript at the cursor.
+fn next_called(
+    window_chromosome: u16,
+    window_first: u64,
+    window: &[u8],
+    kinds: &[u8; 4096],
+    marks: &[u8; 4096],
+    ids: &[u32; 4096],
+    numbers: &[u16; 4096],
+    starts: &[u64; 4096],
+    ends: &[u64; 4096],
+    call: Call,
+    cursor: Cursor,
+    behind: Cursor,
+    out: &mut [u8],
+) -> Listed
+    ensures { λ r. ⌜ (r ≡ listedAs (now (out .entry)) (nextCalled (record { kinds = now (kinds .entry); marks = now (marks .entry); ids = now (ids .entry); numbers = now (numbers .entry); starts = now (starts .entry); ends = now (ends .entry) }) (record { chromosome = «window_chromosome»; first = «window_first»; bytes = now (window .entry) }) cursor behind call)) × (now (out .exit) ≡ listedTo (now (out .entry)) (nextCalled (record { kinds = now (kinds .entry); marks = now (marks .entry); ids = now (ids .entry); numbers = now (numbers .entry); starts = now (starts .entry); ends = now (ends .entry) }) (record { chromosome = «window_chromosome»; first = «window_first»; bytes = now (window .entry) }) cursor behind call)) ⌝ }
+{
+    let row = cursor.row;
+    if !is_transcript(kinds, row) {
+        return Listed::End;
+    }
+    let rows = rows_at(kinds, row);
+    let called = call_at(
+        window_chromosome,
+        window_first,
+        window,
+        call,
+        marks,
+        ids,
+        numbers,
+        starts,
+        ends,
+        row,
+        rows,
+    );
+    let next = behind_transcript(kinds, rows.bases, cursor, behind);
+    let written = write_called(out, cursor.number, ids[row], called);
+    line_listed(written, next)
+}
+
+// The next line, put into the buffer; the listing's end; or 28 where the line does not fit.
+pub fn next_line(
+    window_chromosome: u16,
+    window_first: u64,
+    window: &[u8],
+    kinds: &[u8; 4096],
+    marks: &[u8; 4096],
+    ids: &[u32; 4096],
+    numbers: &[u16; 4096],
+    starts: &[u64; 4096],
+    ends: &[u64; 4096],
+    calls: &[u8],
+    cursor: Cursor,
+    out: &mut [u8],
+) -> Listed
+    ensures { λ r. ⌜ (r ≡ listedAs (now (out .entry)) (nextLine (record { kinds = now (kinds .entry); marks = now (marks .entry); ids = now (ids .entry); numbers = now (numbers .entry); starts = now (starts .entry); ends = now (ends .entry) }) (record { chromosome = «window_chromosome»; first = «window_first»; bytes = now (window .entry) }) (now (calls .entry)) cursor)) × (now (out .exit) ≡ listedTo (now (out .entry)) (nextLine (record { kinds = now (kinds .entry); marks = now (marks .entry); ids = now (ids .entry); numbers = now (numbers .entry); starts = now (starts .entry); ends = now (ends .entry) }) (record { chromosome = «window_chromosome»; first = «window_first»; bytes = now (window .entry) }) (now (calls .entry)) cursor)) ⌝ }
+    ensures { λ r. ⌜ Advances (now (calls .entry)) cursor (now (out .entry)) r ⌝ }
+{
+    let at = cursor.at;
+    let number = cursor.number;
+    if calls.len() <= at {
+        return Listed::End;
+    }
+    if 65536 < number {
+        return Listed::End;
+    }
+    let to = line_end(calls, at);
+    let behind = Cursor {
+        at: to,
+        number: number + 1,
+        row: 0,
+    };
+    let parsed = parse_call(&calls[at..to]);
+    match parsed {
+        ParsedCall::Read(call) => next_called(
+            window_chromosome,
+            window_first,
+            window,
+            kinds,
+            marks,
+            ids,
+            numbers,
+            starts,
+            ends,
+            call,
+            cursor,
+            behind,
+            out,
+        ),
+        ParsedCall::Malformed => {
+            let written = write_refusal(out, number, 0, 26);
+            line_listed(written, behind)
+        }
+    }
+}
