@@ -1,19 +1,20 @@
 -- Step after step gives the listing, line after line, and ends.
 -- Assumes nothing.
 use Prim.Native.Nat.{ℕ, _+_, _≤_}
-use mathlib.Core.Path.{_≡_, refl, sym, _∙_, ap}
+use mathlib.Core.Path.{_≡_, refl, sym}
 use mathlib.Core.Bool.{Bool, true, false, _||_}
 use mathlib.Core.List.{List, [], _∷_}
 use native.Mathlib.Omega.{arith}
-use lib.ListN.{length, getD}
-use lib.Dec.{ltb}
-use borrow.Author.Tests.{ltb-false, eq-eqb}
+use lib.ListN.{length}
+use borrow.Author.Tests.{ltb-false}
 use Rattle.deck.specs.declared.DeckAnswer.{DeckAnswer}
 use Rattle.deck.specs.declared.DeckAnswer.the-variants.{Accepted, Refused}
 use Rattle.deck.specs.Walk.{walkDeck}
 use Rattle.deck.specs.Order.{orderOf}
 use Rattle.deck.specs.Deck.{readDeck, deckTranscripts}
-use Rattle.deck.specs.Table.{isKind, tableOf, tableTranscripts, tableAs, deckOf}
+use Rattle.deck.specs.Table.{tableOf, tableAs, deckOf}
+use Rattle.deck.proofs.Accepted.{accepted-transcripts}
+use Rattle.deck.proofs.Transcripts.{accepted-first}
 use Rattle.listing.specs.WindowFile.{badWindowFile, badCallFile, windowOf}
 use Rattle.listing.specs.Calls.{linesOf}
 use Rattle.listing.specs.Listing.{allLines, listingOf, listing}
@@ -27,28 +28,25 @@ either-false : (a b : Bool) → (a || b) ≡ false → b ≡ false
 either-false true b e = absurd (let z : _≡_ {A = ℕ} 0 1 = cc in omega arith)
 either-false false b e = e
 
-module _ (accepted-transcripts : (d : List ℕ) → readDeck d ≡ Accepted → tableTranscripts (tableOf d (orderOf (walkDeck d))) ≡ deckTranscripts d)
-    (accepted-first : (d : List ℕ) → readDeck d ≡ Accepted → getD (tableOf d (orderOf (walkDeck d)) .kinds) 0 0 ≡ 1) where
-  module _ (deck window calls : List ℕ) where
-    all-steps : readDeck deck ≡ Accepted → length calls ≤ 65_536 → (n : ℕ)
-        → steps (length (allLines (deckTranscripts deck) (windowOf window) 1 (linesOf calls)) + n) (tableOf deck (orderOf (walkDeck deck))) (windowOf window) calls start
-        ≡ allLines (deckTranscripts deck) (windowOf window) 1 (linesOf calls)
-    all-steps e short n =
-        let t = tableOf deck (orderOf (walkDeck deck)) in
-        let f : isKind (t .kinds) 1 0 ≡ true = eq-eqb (getD (t .kinds) 0 0) 1 (accepted-first deck e) in
-        rw (sym (accepted-transcripts deck e)) (call-steps t (windowOf window) calls f short (length calls) 0 1 n (omega arith) (omega arith))
+module _ (deck window calls : List ℕ) where
+  all-steps : readDeck deck ≡ Accepted → length calls ≤ 65_536 → (n : ℕ)
+      → steps (length (allLines (deckTranscripts deck) (windowOf window) 1 (linesOf calls)) + n) (tableOf deck (orderOf (walkDeck deck))) (windowOf window) calls start
+      ≡ allLines (deckTranscripts deck) (windowOf window) 1 (linesOf calls)
+  all-steps e short n =
+      rw (sym (accepted-transcripts deck e))
+      (call-steps (tableOf deck (orderOf (walkDeck deck))) (windowOf window) calls (accepted-first deck e) short (length calls) 0 1 n (omega arith) (omega arith))
 
-    -- the judgement of the deck, then of the two files
-    judged : (a : DeckAnswer) → readDeck deck ≡ a → StepsAre (listingOf a deck window calls) window calls (openedAs a (tableAs a (tableOf deck (orderOf (walkDeck deck)))) window calls) (openedAs a (tableAs a (tableOf deck (orderOf (walkDeck deck)))) window calls .opening)
-    unfolding listingOf windowOf
-    judged (Refused n i) e = refl
-    judged Accepted e = here (badWindowFile window || badCallFile calls) refl
-      where
-        here : (b : Bool) → (badWindowFile window || badCallFile calls) ≡ b → StepsAre (listingOf Accepted deck window calls) window calls (openedAs Accepted (tableOf deck (orderOf (walkDeck deck))) window calls) (openedAs Accepted (tableOf deck (orderOf (walkDeck deck))) window calls .opening)
-        here true f = rw f refl
-        here false f =
-            rw f (all-steps e (ltb-false 65_536 (length calls) (either-false (badWindowFile window) (badCallFile calls) f)))
+  -- the judgement of the deck, then of the two files
+  judged : (a : DeckAnswer) → readDeck deck ≡ a → StepsAre (listingOf a deck window calls) window calls (openedAs a (tableAs a (tableOf deck (orderOf (walkDeck deck)))) window calls) (openedAs a (tableAs a (tableOf deck (orderOf (walkDeck deck)))) window calls .opening)
+  unfolding listingOf windowOf
+  judged (Refused n i) e = refl
+  judged Accepted e = here (badWindowFile window || badCallFile calls) refl
+    where
+      here : (b : Bool) → (badWindowFile window || badCallFile calls) ≡ b → StepsAre (listingOf Accepted deck window calls) window calls (openedAs Accepted (tableOf deck (orderOf (walkDeck deck))) window calls) (openedAs Accepted (tableOf deck (orderOf (walkDeck deck))) window calls .opening)
+      here true f = rw f refl
+      here false f =
+          rw f (all-steps e (ltb-false 65_536 (length calls) (either-false (badWindowFile window) (badCallFile calls) f)))
 
-  pub whole : WholeListing
-  unfolding listing opened deckOf
-  whole deck window calls = judged deck window calls (readDeck deck) refl
+pub whole : WholeListing
+unfolding listing opened deckOf
+whole deck window calls = judged deck window calls (readDeck deck) refl

@@ -7,23 +7,23 @@ use Rattle.common.specs.Little.{at2, at8}
 use Rattle.consequence.specs.Window.{Window}
 use Rattle.deck.specs.declared.DeckAnswer.{DeckAnswer}
 use Rattle.deck.specs.declared.DeckTable.{DeckTable}
-use Rattle.deck.specs.Table.{emptyTable, deckOf}
+use Rattle.deck.specs.Table.{deckOf}
 use Rattle.listing.specs.declared.Opening.{Opening}
 use Rattle.listing.specs.declared.Opening.the-variants.{Listing, Refused}
 use Rattle.listing.specs.declared.Opened.{Opened}
 use Rattle.listing.specs.WindowFile.{badWindowFile, badCallFile}
 
--- a refusal: the record and the number, zeros besides
-abbrev pub notOpened : ℕ → ℕ → Opened
-notOpened i n = record { opening = Refused i n; table = emptyTable; «window_chromosome» = 0; «window_first» = 0 }
+-- a refusal: the record and the number, no window
+abbrev pub notOpened : ℕ → ℕ → DeckTable → Opened
+notOpened i n t = record { opening = Refused i n; table = t; «window_chromosome» = 0; «window_first» = 0 }
 
 abbrev pub openedAs : DeckAnswer → DeckTable → List ℕ → List ℕ → Opened
-openedAs (DeckAnswer.Refused n i) t window calls = notOpened i n
+openedAs (DeckAnswer.Refused n i) t window calls = notOpened i n t
 openedAs DeckAnswer.Accepted t window calls =
-    cond (badWindowFile window || badCallFile calls) (notOpened 0 27)
+    cond (badWindowFile window || badCallFile calls) (notOpened 0 27 t)
     (record { opening = Listing; table = t; «window_chromosome» = at2 window 0; «window_first» = at8 window 2 })
 
--- the deck's refusal, 27 for window or calls, or the deck's table and the window's two numbers
+-- the deck's refusal, 27 for window or calls, or the window's two numbers; with it the deck's table
 unfoldable pub opened : List ℕ → List ℕ → List ℕ → Opened
 opened deck window calls = openedAs (deckOf deck .answer) (deckOf deck .table) window calls
 

@@ -63,7 +63,7 @@ fn push_back(out: &mut [u8], at: usize, x: ConsequenceResult) -> usize
     let b = push_byte(out, a, 32);
     let c = push_letters(out, b, letters);
     let d = push_byte(out, c, 32);
-    let e = push_terms(out, d, set.0);
+    let e = push_terms(out, d, set);
     push_byte(out, e, 10)
 }
 

@@ -1,0 +1,19 @@
+use Rattle.listing.proofs.open.bad_files.Statement.{statement}
+use Rattle.listing.proofs.open.bad_files.Tie as tie
+use Rattle.listing.proofs.open.bad_files.Reads as reads
+use Rattle.listing.proofs.open.bad_files.Lts as lts
+
+-- src/open.rt:19:9
+returns : tie.Need-returns
+returns c = ?
+
+-- src/open.rt:22:9
+returns-2 : tie.Need-returns-2
+returns-2 c = ?
+
+-- src/open.rt:15:1
+returns-3 : tie.Need-returns-3
+returns-3 c = ?
+
+pub bad-files-spec : {M : Type 1} → statement M
+bad-files-spec = tie.close (tie.spec returns returns-2 returns-3)

@@ -1,0 +1,69 @@
+use borrow.Author.Needs.{needs}
+use Rattle.listing.proofs.open.open_listing.Statement.{statement}
+use Rattle.listing.proofs.open.open_listing.Tie as tie
+use Rattle.listing.proofs.open.open_listing.Reads as reads
+use Rattle.listing.proofs.open.open_listing.Lts as lts
+use Rattle.common.proofs.little.u16_at.Reads as u16-at-reads
+use Rattle.common.proofs.little.u64_at.Reads as u64-at-reads
+use Rattle.deck.proofs.read_deck.Reads as read-deck-reads
+use Rattle.listing.proofs.open.bad_files.Reads as bad-files-reads
+use Rattle.listing.proofs.open.not_opened.Reads as not-opened-reads
+
+-- src/open.rt:42:9
+read-deck-requires : tie.Need-read-deck-requires
+read-deck-requires c κs = search needs
+
+-- src/open.rt:45:34
+enum-known-answer : tie.Need-enum-known-answer
+enum-known-answer c = search needs
+
+-- src/open.rt:46:9
+not-opened-requires : tie.Need-not-opened-requires
+not-opened-requires c κs = search needs
+
+-- src/open.rt:46:9
+returns : tie.Need-returns
+returns c = ?
+
+enum-told : tie.Need-enum-told
+enum-told c = search needs
+
+-- src/open.rt:48:8
+bad-files-requires : tie.Need-bad-files-requires
+bad-files-requires c κs = search needs
+
+-- src/open.rt:49:9
+not-opened-requires-2 : tie.Need-not-opened-requires-2
+not-opened-requires-2 c κs = search needs
+
+-- src/open.rt:49:9
+returns-2 : tie.Need-returns-2
+returns-2 c = ?
+
+-- src/open.rt:54:28
+u16-at-requires : tie.Need-u16-at-requires
+u16-at-requires c κs = ?
+
+-- src/open.rt:55:23
+u64-at-requires : tie.Need-u64-at-requires
+u64-at-requires c κs = ?
+
+-- src/open.rt:39:1
+returns-3 : tie.Need-returns-3
+returns-3 c = ?
+
+pub open-listing-spec : {M : Type 1} → statement M
+open-listing-spec =
+    tie.close
+    (tie.spec
+    read-deck-requires
+    enum-known-answer
+    not-opened-requires
+    returns
+    enum-told
+    bad-files-requires
+    not-opened-requires-2
+    returns-2
+    u16-at-requires
+    u64-at-requires
+    returns-3)
