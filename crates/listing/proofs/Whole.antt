@@ -3,10 +3,9 @@
 use Prim.Native.Nat.{ℕ, _+_, _≤_}
 use mathlib.Core.Path.{_≡_, refl, sym}
 use mathlib.Core.Bool.{Bool, true, false, _||_}
-use mathlib.Core.List.{List, [], _∷_}
+use mathlib.Core.List.{List}
 use native.Mathlib.Omega.{arith}
 use lib.ListN.{length}
-use borrow.Author.Tests.{ltb-false}
 use Rattle.deck.specs.declared.DeckAnswer.{DeckAnswer}
 use Rattle.deck.specs.declared.DeckAnswer.the-variants.{Accepted, Refused}
 use Rattle.deck.specs.Walk.{walkDeck}
@@ -21,12 +20,8 @@ use Rattle.listing.specs.Listing.{allLines, listingOf, listing}
 use Rattle.listing.specs.Opening.{opened, openedAs}
 use Rattle.listing.specs.Steps.{steps, start}
 use Rattle.listing.specs.Whole.{StepsAre, WholeListing}
+use Rattle.listing.proofs.FilesJudged.{right-files}
 use Rattle.listing.proofs.CallSteps.{call-steps}
-
--- neither file is refused: the calls are few
-either-false : (a b : Bool) → (a || b) ≡ false → b ≡ false
-either-false true b e = absurd (let z : _≡_ {A = ℕ} 0 1 = cc in omega arith)
-either-false false b e = e
 
 module _ (deck window calls : List ℕ) where
   all-steps : readDeck deck ≡ Accepted → length calls ≤ 65_536 → (n : ℕ)
@@ -45,7 +40,7 @@ module _ (deck window calls : List ℕ) where
       here : (b : Bool) → (badWindowFile window || badCallFile calls) ≡ b → StepsAre (listingOf Accepted deck window calls) window calls (openedAs Accepted (tableOf deck (orderOf (walkDeck deck))) window calls) (openedAs Accepted (tableOf deck (orderOf (walkDeck deck))) window calls .opening)
       here true f = rw f refl
       here false f =
-          rw f (all-steps e (ltb-false 65_536 (length calls) (either-false (badWindowFile window) (badCallFile calls) f)))
+          rw f (all-steps e (right-files window calls f .1))
 
 pub whole : WholeListing
 unfolding listing opened deckOf

@@ -8,7 +8,6 @@ use Rattle.consequence.specs.Window.{Window}
 use Rattle.deck.specs.declared.DeckAnswer.{DeckAnswer}
 use Rattle.deck.specs.declared.DeckTable.{DeckTable}
 use Rattle.deck.specs.Table.{deckOf}
-use Rattle.listing.specs.declared.Opening.{Opening}
 use Rattle.listing.specs.declared.Opening.the-variants.{Listing, Refused}
 use Rattle.listing.specs.declared.Opened.{Opened}
 use Rattle.listing.specs.WindowFile.{badWindowFile, badCallFile}

@@ -1,3 +1,6 @@
+use native.Mathlib.Omega.{arith}
+use denote.Ref.{now}
+use Rattle.listing.proofs.FilesJudged.{short-window, long-window, right-window}
 use Rattle.listing.proofs.open.bad_files.Statement.{statement}
 use Rattle.listing.proofs.open.bad_files.Tie as tie
 use Rattle.listing.proofs.open.bad_files.Reads as reads
@@ -5,15 +8,15 @@ use Rattle.listing.proofs.open.bad_files.Lts as lts
 
 -- src/open.rt:19:9
 returns : tie.Need-returns
-returns c = ?
+returns c = let a = c .before .args in short-window (now (a .window)) (now (a .calls)) (omega arith)
 
 -- src/open.rt:22:9
 returns-2 : tie.Need-returns-2
-returns-2 c = ?
+returns-2 c = let a = c .before .before .args in long-window (now (a .window)) (now (a .calls)) (omega arith) (omega arith)
 
 -- src/open.rt:15:1
 returns-3 : tie.Need-returns-3
-returns-3 c = ?
+returns-3 c = let a = c .before .before .args in right-window (now (a .window)) (now (a .calls)) (omega arith) (omega arith)
 
 pub bad-files-spec : {M : Type 1} → statement M
 bad-files-spec = tie.close (tie.spec returns returns-2 returns-3)
