@@ -1,3 +1,5 @@
+-- `listing::answer::push_numbers` meets its contract.
+-- Assumes nothing.
 use Rattle.common.specs.Stored.{Pushed}
 use native.Mathlib.Omega.{arith}
 use denote.Ref.{now}
@@ -6,11 +8,6 @@ use Rattle.listing.specs.Line.{numberColumns}
 use borrow.Author.Needs.{needs}
 use Rattle.listing.proofs.answer.push_numbers.Statement.{statement}
 use Rattle.listing.proofs.answer.push_numbers.Tie as tie
-use Rattle.listing.proofs.answer.push_numbers.Reads as reads
-use Rattle.listing.proofs.answer.push_numbers.Lts as lts
-use Rattle.common.proofs.text.push_byte.Reads as push-byte-reads
-use Rattle.listing.proofs.columns.push_counted.Reads as push-counted-reads
-use Rattle.listing.proofs.columns.push_numbered.Reads as push-numbered-reads
 
 -- the columns one behind the other
 written : (c : tie.After-slice-known11)
@@ -21,51 +18,39 @@ written c =
     (pushed-on (c .before .before .before .before .before .before .before .before .before .before .before .before .before .before .before .before .before .before .before .before .before .before .push-counted .ensures .0) (pushed-on (c .before .before .before .before .before .before .before .before .before .before .before .before .before .before .before .before .before .before .push-byte3 .ensures) (pushed-on (c .before .before .before .before .before .before .before .before .before .before .before .before .before .before .push-counted2 .ensures .0) (pushed-on (c .before .before .before .before .before .before .before .before .before .before .push-byte4 .ensures)
     (pushed-on (c .before .before .before .before .before .before .push-counted3 .ensures .0) (c .before .before .push-byte5 .ensures)))))))))
 
--- src/answer.rt:43:9
 push-numbered-requires : tie.Need-push-numbered-requires
 push-numbered-requires c κs = search needs
 
--- src/answer.rt:44:9
 push-byte-requires : tie.Need-push-byte-requires
 push-byte-requires c κs = search needs
 
--- src/answer.rt:45:9
 push-numbered-requires-2 : tie.Need-push-numbered-requires-2
 push-numbered-requires-2 c κs = search needs
 
--- src/answer.rt:46:9
 push-byte-requires-2 : tie.Need-push-byte-requires-2
 push-byte-requires-2 c κs = search needs
 
--- src/answer.rt:47:9
 push-counted-requires : tie.Need-push-counted-requires
 push-counted-requires c κs = search needs
 
--- src/answer.rt:48:9
 push-byte-requires-3 : tie.Need-push-byte-requires-3
 push-byte-requires-3 c κs = search needs
 
--- src/answer.rt:49:9
 push-counted-requires-2 : tie.Need-push-counted-requires-2
 push-counted-requires-2 c κs = search needs
 
--- src/answer.rt:50:9
 push-byte-requires-4 : tie.Need-push-byte-requires-4
 push-byte-requires-4 c κs = search needs
 
--- src/answer.rt:51:9
 push-counted-requires-3 : tie.Need-push-counted-requires-3
 push-counted-requires-3 c κs = omega (arith, c .before .before .before .push-byte4 .ensures .behind, c .before .before .before .before .before .before .before .push-counted2 .ensures .1, c .before .before .before .before .before .before .before .before .before .before .before .push-byte3 .ensures .behind, c .before .before .before .before .before .before .before .before .before .before .before .before .before .before .before .push-counted .ensures .1, c .before .before .before .before .before .before .before .before .before .before .before .before .before .before .before .before .before .before .before .push-byte2 .ensures .behind, c .before .before .before .before .before .before .before .before .before .before .before .before .before .before .before .before .before .before .before .before .before .before .before .push-numbered2 .ensures .1, c .before .before .before .before .before .before .before .before .before .before .before .before .before .before .before .before .before .before .before .before .before .before .before .before .before .before .before .push-byte .ensures .behind, c .before .before .before .before .before .before .before .before .before .before .before .before .before .before .before .before .before .before .before .before .before .before .before .before .before .before .before .before .before .before .before .push-numbered .ensures .1, c .before .before .before .before .before .before .before .before .before .before .before .before .before .before .before .before .before .before .before .before .before .before .before .before .before .before .before .before .before .before .before .before .before .before .pre)
 
--- src/answer.rt:52:5
 push-byte-requires-5 : tie.Need-push-byte-requires-5
 push-byte-requires-5 c κs = omega (arith, c .before .before .before .push-counted3 .ensures .1, c .before .before .before .before .before .before .before .push-byte4 .ensures .behind, c .before .before .before .before .before .before .before .before .before .before .before .push-counted2 .ensures .1, c .before .before .before .before .before .before .before .before .before .before .before .before .before .before .before .push-byte3 .ensures .behind, c .before .before .before .before .before .before .before .before .before .before .before .before .before .before .before .before .before .before .before .push-counted .ensures .1, c .before .before .before .before .before .before .before .before .before .before .before .before .before .before .before .before .before .before .before .before .before .before .before .push-byte2 .ensures .behind, c .before .before .before .before .before .before .before .before .before .before .before .before .before .before .before .before .before .before .before .before .before .before .before .before .before .before .before .push-numbered2 .ensures .1, c .before .before .before .before .before .before .before .before .before .before .before .before .before .before .before .before .before .before .before .before .before .before .before .before .before .before .before .before .before .before .before .push-byte .ensures .behind, c .before .before .before .before .before .before .before .before .before .before .before .before .before .before .before .before .before .before .before .before .before .before .before .before .before .before .before .before .before .before .before .before .before .before .before .push-numbered .ensures .1, c .before .before .before .before .before .before .before .before .before .before .before .before .before .before .before .before .before .before .before .before .before .before .before .before .before .before .before .before .before .before .before .before .before .before .before .before .before .before .pre)
 
--- src/answer.rt:33:1
 same-length : tie.Need-same-length
 same-length c = pushed-length (written c)
 
--- src/answer.rt:33:1
 returns : tie.Need-returns
 returns c = (written c, omega (arith, c .before .before .push-byte5 .ensures .behind, c .before .before .before .before .before .before .push-counted3 .ensures .1, c .before .before .before .before .before .before .before .before .before .before .push-byte4 .ensures .behind, c .before .before .before .before .before .before .before .before .before .before .before .before .before .before .push-counted2 .ensures .1, c .before .before .before .before .before .before .before .before .before .before .before .before .before .before .before .before .before .before .push-byte3 .ensures .behind, c .before .before .before .before .before .before .before .before .before .before .before .before .before .before .before .before .before .before .before .before .before .before .push-counted .ensures .1, c .before .before .before .before .before .before .before .before .before .before .before .before .before .before .before .before .before .before .before .before .before .before .before .before .before .before .push-byte2 .ensures .behind, c .before .before .before .before .before .before .before .before .before .before .before .before .before .before .before .before .before .before .before .before .before .before .before .before .before .before .before .before .before .before .push-numbered2 .ensures .1, c .before .before .before .before .before .before .before .before .before .before .before .before .before .before .before .before .before .before .before .before .before .before .before .before .before .before .before .before .before .before .before .before .before .before .push-byte .ensures .behind, c .before .before .before .before .before .before .before .before .before .before .before .before .before .before .before .before .before .before .before .before .before .before .before .before .before .before .before .before .before .before .before .before .before .before .before .before .before .before .push-numbered .ensures .1))
 

@@ -1,42 +1,33 @@
+-- `listing::answer::write_answer` meets its contract.
+-- Assumes nothing.
 use denote.Ref.{now}
 use Rattle.listing.specs.Line.{answerLine}
 use Rattle.listing.proofs.Fitting.{too-long, put}
 use borrow.Author.Needs.{needs}
 use Rattle.listing.proofs.answer.write_answer.Statement.{statement}
 use Rattle.listing.proofs.answer.write_answer.Tie as tie
-use Rattle.listing.proofs.answer.write_answer.Reads as reads
-use Rattle.listing.proofs.answer.write_answer.Lts as lts
-use Rattle.listing.proofs.answer.push_answer.Reads as push-answer-reads
 
--- src/answer.rt:86:25
 slice-relend-prefix-push-answer : tie.Need-slice-relend-prefix-push-answer
 slice-relend-prefix-push-answer c = search needs
 
--- src/answer.rt:86:25
 slice-aggregate-push-answer : tie.Need-slice-aggregate-push-answer
 slice-aggregate-push-answer c = search needs
 
--- src/answer.rt:86:9
 push-answer-requires : tie.Need-push-answer-requires
 push-answer-requires c κs = search needs
 
--- src/answer.rt:88:9
 same-length : tie.Need-same-length
 same-length c = search needs
 
--- src/answer.rt:88:9
 returns : tie.Need-returns
 returns c = let a = c .before .before .before .before .before .before .args in too-long (now (a .out)) (answerLine (a .number) (a .id) (a .x)) (c .before .before .before .push-answer .ensures) (c .if1 .taken)
 
--- src/answer.rt:90:5
 push-answer-requires-2 : tie.Need-push-answer-requires-2
 push-answer-requires-2 c κs = search needs
 
--- src/answer.rt:83:1
 same-length-2 : tie.Need-same-length-2
 same-length-2 c = search needs
 
--- src/answer.rt:83:1
 returns-2 : tie.Need-returns-2
 returns-2 c = let a = c .before .before .before .before .before .before .before .before .before .before .args in put (now (a .out)) (answerLine (a .number) (a .id) (a .x)) (c .before .before .before .before .before .before .before .push-answer .ensures) (c .before .before .before .before .if1 .left) (c .before .before .push-answer2 .ensures)
 

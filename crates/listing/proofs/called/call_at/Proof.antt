@@ -1,137 +1,108 @@
+-- `listing::called::call_at` meets its contract.
+-- Assumes nothing.
 use denote.Ref.{now}
 use Rattle.listing.proofs.Answering.{call-made}
 use native.Mathlib.Omega.{arith}
 use borrow.Author.Needs.{needs}
 use Rattle.listing.proofs.called.call_at.Statement.{statement}
 use Rattle.listing.proofs.called.call_at.Tie as tie
-use Rattle.listing.proofs.called.call_at.Reads as reads
-use Rattle.listing.proofs.called.call_at.Lts as lts
-use Rattle.consequence.proofs.annotate_snv.Reads as annotate-snv-reads
-use Rattle.deck.proofs.rows.model_in.Reads as model-in-reads
 
--- src/called.rt:33:16
 add-from : tie.Need-add-from
 add-from c = search needs
 
--- src/called.rt:47:9
 model-in-requires : tie.Need-model-in-requires
 model-in-requires c κs = search needs
 
--- src/called.rt:48:9
 mul-annotate-snv : tie.Need-mul-annotate-snv
 mul-annotate-snv c = search needs
 
--- src/called.rt:48:9
 sub-annotate-snv : tie.Need-sub-annotate-snv
 sub-annotate-snv c = search needs
 
--- src/called.rt:48:9
 part-annotate-snv-start : tie.Need-part-annotate-snv-start
 part-annotate-snv-start c = search needs
 
--- src/called.rt:48:9
 part-annotate-snv-end : tie.Need-part-annotate-snv-end
 part-annotate-snv-end c = search needs
 
--- src/called.rt:49:9
 mul-annotate-snv-2 : tie.Need-mul-annotate-snv-2
 mul-annotate-snv-2 c = search needs
 
--- src/called.rt:49:9
 sub-annotate-snv-2 : tie.Need-sub-annotate-snv-2
 sub-annotate-snv-2 c = search needs
 
--- src/called.rt:49:9
 part-annotate-snv-start-2 : tie.Need-part-annotate-snv-start-2
 part-annotate-snv-start-2 c = search needs
 
--- src/called.rt:49:9
 part-annotate-snv-end-2 : tie.Need-part-annotate-snv-end-2
 part-annotate-snv-end-2 c = search needs
 
--- src/called.rt:50:9
 sub-annotate-snv-3 : tie.Need-sub-annotate-snv-3
 sub-annotate-snv-3 c = search needs
 
--- src/called.rt:50:9
 part-annotate-snv-start-3 : tie.Need-part-annotate-snv-start-3
 part-annotate-snv-start-3 c = search needs
 
--- src/called.rt:50:9
 part-annotate-snv-end-3 : tie.Need-part-annotate-snv-end-3
 part-annotate-snv-end-3 c = search needs
 
--- src/called.rt:51:9
 mul-annotate-snv-3 : tie.Need-mul-annotate-snv-3
 mul-annotate-snv-3 c = search needs
 
--- src/called.rt:51:9
 sub-annotate-snv-4 : tie.Need-sub-annotate-snv-4
 sub-annotate-snv-4 c = search needs
 
--- src/called.rt:51:9
 part-annotate-snv-start-4 : tie.Need-part-annotate-snv-start-4
 part-annotate-snv-start-4 c = search needs
 
--- src/called.rt:51:9
 part-annotate-snv-end-4 : tie.Need-part-annotate-snv-end-4
 part-annotate-snv-end-4 c = search needs
 
--- src/called.rt:52:9
 mul-annotate-snv-4 : tie.Need-mul-annotate-snv-4
 mul-annotate-snv-4 c = search needs
 
--- src/called.rt:52:9
 sub-annotate-snv-5 : tie.Need-sub-annotate-snv-5
 sub-annotate-snv-5 c = search needs
 
--- src/called.rt:52:9
 part-annotate-snv-start-5 : tie.Need-part-annotate-snv-start-5
 part-annotate-snv-start-5 c = search needs
 
--- src/called.rt:52:9
 part-annotate-snv-end-5 : tie.Need-part-annotate-snv-end-5
 part-annotate-snv-end-5 c = search needs
 
--- src/called.rt:53:9
 mul-annotate-snv-5 : tie.Need-mul-annotate-snv-5
 mul-annotate-snv-5 c = let a = c .before .before .before .before .before .before .before .before .before .before .before .pre in let d = a .2 in let e = a .3 in let f = a .4 in omega arith
 
--- src/called.rt:53:9
 sub-annotate-snv-6 : tie.Need-sub-annotate-snv-6
 sub-annotate-snv-6 c = search needs
 
--- src/called.rt:53:9
 part-annotate-snv-start-6 : tie.Need-part-annotate-snv-start-6
 part-annotate-snv-start-6 c = search needs
 
--- src/called.rt:53:9
 part-annotate-snv-end-6 : tie.Need-part-annotate-snv-end-6
 part-annotate-snv-end-6 c = let a = c .before .before .before .before .before .before .before .before .before .before .before .pre in let e = a .3 in let f = a .4 in omega arith
 
--- src/called.rt:54:9
 mul-annotate-snv-6 : tie.Need-mul-annotate-snv-6
 mul-annotate-snv-6 c = let a = c .before .before .before .before .before .before .before .before .before .before .before .before .pre in let e = a .3 in let f = a .4 in omega arith
 
--- src/called.rt:54:9
 sub-annotate-snv-7 : tie.Need-sub-annotate-snv-7
 sub-annotate-snv-7 c = search needs
 
--- src/called.rt:54:9
 part-annotate-snv-start-7 : tie.Need-part-annotate-snv-start-7
 part-annotate-snv-start-7 c = search needs
 
--- src/called.rt:54:9
 part-annotate-snv-end-7 : tie.Need-part-annotate-snv-end-7
 part-annotate-snv-end-7 c = let a = c .before .before .before .before .before .before .before .before .before .before .before .before .pre in let f = a .4 in omega arith
 
--- src/called.rt:42:5
 annotate-snv-requires : tie.Need-annotate-snv-requires
 annotate-snv-requires c κs = search needs
 
--- src/called.rt:17:1
 returns : tie.Need-returns
-returns c = let a = c .before .before .before .before .before .before .before .before .before .before .before .before .before .before .args in call-made (now (a .marks)) (now (a .ids)) (now (a .numbers)) (now (a .starts)) (now (a .ends)) (a .k) (a .rows) (record { chromosome = a .window-chromosome; first = a .window-first; bytes = now (a .window) }) (a .call) (c .before .before .before .before .before .before .before .before .model-in .ensures) (c .annotate-snv .ensures)
+returns c =
+    let a = c .before .before .before .before .before .before .before .before .before .before .before .before .before .before .args in
+    call-made (now (a .marks)) (now (a .ids)) (now (a .numbers)) (now (a .starts)) (now (a .ends)) (a .k) (a .rows)
+    (record { chromosome = a .window-chromosome; first = a .window-first; bytes = now (a .window) }) (a .call)
+    (c .before .before .before .before .before .before .before .before .model-in .ensures) (c .annotate-snv .ensures)
 
 pub call-at-spec : {M : Type 1} → statement M
 call-at-spec =

@@ -1,3 +1,5 @@
+-- `listing::columns::push_codons` meets its contract.
+-- Assumes nothing.
 use native.Mathlib.Omega.{arith}
 use Rattle.common.proofs.Stored.{pushed-on}
 use Rattle.codon.specs.Display.{formatCodons}
@@ -5,49 +7,35 @@ use Rattle.listing.proofs.Shown.{codon-length}
 use borrow.Author.Needs.{needs}
 use Rattle.listing.proofs.columns.push_codons.Statement.{statement}
 use Rattle.listing.proofs.columns.push_codons.Tie as tie
-use Rattle.listing.proofs.columns.push_codons.Reads as reads
-use Rattle.listing.proofs.columns.push_codons.Lts as lts
-use Rattle.common.proofs.text.push_byte.Reads as push-byte-reads
-use Rattle.listing.proofs.columns.push_codon.Reads as push-codon-reads
 
--- src/columns.rt:90:37
 enum-told : tie.Need-enum-told
 enum-told c = search needs
 
--- src/columns.rt:90:27
 push-byte-requires : tie.Need-push-byte-requires
 push-byte-requires c κs = search needs
 
--- src/columns.rt:91:26
 enum-known-c : tie.Need-enum-known-c
 enum-known-c c = search needs
 
--- src/columns.rt:92:17
 push-codon-requires : tie.Need-push-codon-requires
 push-codon-requires c κs = search needs
 
--- src/columns.rt:93:17
 push-byte-requires-2 : tie.Need-push-byte-requires-2
 push-byte-requires-2 c κs = omega (arith, codon-length (c .before .before .before .before .before .before .c .given .0 .0) (c .before .before .before .before .before .before .c .given .0 .1 .1 .0), c .before .before .before .push-codon .ensures .behind)
 
--- src/columns.rt:94:13
 push-codon-requires-2 : tie.Need-push-codon-requires-2
 push-codon-requires-2 c κs = omega (arith, codon-length (c .before .before .before .before .before .before .before .before .before .before .c .given .0 .0) (c .before .before .before .before .before .before .before .before .before .before .c .given .0 .1 .1 .0), c .before .before .before .before .before .before .before .push-codon .ensures .behind, c .before .before .before .push-byte2 .ensures .behind)
 
--- src/columns.rt:85:1
 same-length : tie.Need-same-length
 same-length c = search needs
 
--- src/columns.rt:85:1
 returns : tie.Need-returns
 unfolding formatCodons
 returns c = (rw (c .before .before .before .before .enum-told .given .1) (c .before .before .push-byte .ensures), omega arith)
 
--- src/columns.rt:85:1
 same-length-2 : tie.Need-same-length-2
 same-length-2 c = search needs
 
--- src/columns.rt:85:1
 returns-2 : tie.Need-returns-2
 unfolding formatCodons
 returns-2 c = (rw (c .before .before .before .before .before .before .before .before .before .before .before .before .before .c .given .1) (pushed-on (c .before .before .before .before .before .before .before .before .before .before .push-codon .ensures) (pushed-on (c .before .before .before .before .before .before .push-byte2 .ensures) (c .before .before .push-codon2 .ensures))), omega (arith, codon-length (c .before .before .before .before .before .before .before .before .before .before .before .before .before .c .given .0 .0) (c .before .before .before .before .before .before .before .before .before .before .before .before .before .c .given .0 .1 .1 .0), codon-length (c .before .before .before .before .before .before .before .before .before .before .before .before .before .c .given .0 .1 .0) (c .before .before .before .before .before .before .before .before .before .before .before .before .before .c .given .0 .1 .1 .0), c .before .before .before .before .before .before .before .before .before .before .push-codon .ensures .behind, c .before .before .before .before .before .before .push-byte2 .ensures .behind, c .before .before .push-codon2 .ensures .behind))

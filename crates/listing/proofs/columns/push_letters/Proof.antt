@@ -1,68 +1,53 @@
+-- `listing::columns::push_letters` meets its contract.
+-- Assumes nothing.
 use native.Mathlib.Omega.{arith}
 use Rattle.common.proofs.Stored.{pushed-on}
 use Rattle.codon.specs.Display.{formatAminoAcids}
 use borrow.Author.Needs.{needs}
 use Rattle.listing.proofs.columns.push_letters.Statement.{statement}
 use Rattle.listing.proofs.columns.push_letters.Tie as tie
-use Rattle.listing.proofs.columns.push_letters.Reads as reads
-use Rattle.listing.proofs.columns.push_letters.Lts as lts
-use Rattle.common.proofs.text.push_byte.Reads as push-byte-reads
 
--- src/columns.rt:104:41
 enum-told : tie.Need-enum-told
 enum-told c = search needs
 
--- src/columns.rt:104:31
 push-byte-requires : tie.Need-push-byte-requires
 push-byte-requires c κs = search needs
 
--- src/columns.rt:105:25
 enum-known-a : tie.Need-enum-known-a
 enum-known-a c = search needs
 
--- src/columns.rt:105:31
 push-byte-requires-2 : tie.Need-push-byte-requires-2
 push-byte-requires-2 c κs = search needs
 
--- src/columns.rt:106:28
 enum-known-a-2 : tie.Need-enum-known-a-2
 enum-known-a-2 c = search needs
 
--- src/columns.rt:107:17
 push-byte-requires-3 : tie.Need-push-byte-requires-3
 push-byte-requires-3 c κs = search needs
 
--- src/columns.rt:108:17
 push-byte-requires-4 : tie.Need-push-byte-requires-4
 push-byte-requires-4 c κs = search needs
 
--- src/columns.rt:109:13
 push-byte-requires-5 : tie.Need-push-byte-requires-5
 push-byte-requires-5 c κs = search needs
 
--- src/columns.rt:99:1
 same-length : tie.Need-same-length
 same-length c = search needs
 
--- src/columns.rt:99:1
 returns : tie.Need-returns
 unfolding formatAminoAcids
 returns c = (rw (c .before .before .before .before .enum-told .given .1) (c .before .before .push-byte .ensures), omega arith)
 
--- src/columns.rt:99:1
 same-length-2 : tie.Need-same-length-2
 same-length-2 c = search needs
 
--- src/columns.rt:99:1
 returns-2 : tie.Need-returns-2
 unfolding formatAminoAcids
 returns-2 c = (rw (c .before .before .before .before .before .a .given .1) (c .before .before .push-byte2 .ensures), omega arith)
 
--- src/columns.rt:99:1
 same-length-3 : tie.Need-same-length-3
 same-length-3 c = search needs
 
--- src/columns.rt:99:1
 returns-3 : tie.Need-returns-3
 unfolding formatAminoAcids
 returns-3 c = (rw (c .before .before .before .before .before .before .before .before .before .before .before .before .before .a2 .given .1) (pushed-on (c .before .before .before .before .before .before .before .before .before .before .push-byte3 .ensures) (pushed-on (c .before .before .before .before .before .before .push-byte4 .ensures) (c .before .before .push-byte5 .ensures))), omega arith)

@@ -1,37 +1,28 @@
+-- `listing::columns::push_shown` meets its contract.
+-- Assumes nothing.
 use borrow.Author.Tests.{eq-eqb, ne-eqb}
 use borrow.Author.Needs.{needs}
 use Rattle.listing.proofs.columns.push_shown.Statement.{statement}
 use Rattle.listing.proofs.columns.push_shown.Tie as tie
-use Rattle.listing.proofs.columns.push_shown.Reads as reads
-use Rattle.listing.proofs.columns.push_shown.Lts as lts
-use Rattle.common.proofs.text.push_byte.Reads as push-byte-reads
-use Rattle.listing.proofs.columns.lower.Reads as lower-reads
 
--- src/columns.rt:61:9
 push-byte-requires : tie.Need-push-byte-requires
 push-byte-requires c κs = search needs
 
--- src/columns.rt:61:9
 same-length : tie.Need-same-length
 same-length c = search needs
 
--- src/columns.rt:61:9
 returns : tie.Need-returns
 returns c = rw (eq-eqb (c .before .before .before .before .before .before .args .i) (c .before .before .before .before .before .before .args .place) (c .before .before .before .before .if1 .taken)) (c .before .before .push-byte .ensures)
 
--- src/columns.rt:63:24
 lower-requires : tie.Need-lower-requires
 lower-requires c κs = search needs
 
--- src/columns.rt:63:5
 push-byte-requires-2 : tie.Need-push-byte-requires-2
 push-byte-requires-2 c κs = search needs
 
--- src/columns.rt:56:1
 same-length-2 : tie.Need-same-length-2
 same-length-2 c = search needs
 
--- src/columns.rt:56:1
 returns-2 : tie.Need-returns-2
 returns-2 c = rw (ne-eqb (c .before .before .before .before .before .before .before .args .i) (c .before .before .before .before .before .before .before .args .place) (c .before .before .before .before .before .if1 .left)) (rw (c .before .before .before .lower .ensures) at (c .before .before .push-byte2 .ensures))
 

@@ -1,3 +1,5 @@
+-- `listing::line::push_refusal` meets its contract.
+-- Assumes nothing.
 use Rattle.common.specs.Text.{decimal}
 use mathlib.Core.Path.{_≡_}
 use mathlib.Core.List.{[], _∷_, _++_, append-assoc}
@@ -8,29 +10,21 @@ use Rattle.listing.proofs.Fitting.{number-length}
 use borrow.Author.Needs.{needs}
 use Rattle.listing.proofs.line.push_refusal.Statement.{statement}
 use Rattle.listing.proofs.line.push_refusal.Tie as tie
-use Rattle.listing.proofs.line.push_refusal.Reads as reads
-use Rattle.listing.proofs.line.push_refusal.Lts as lts
-use Rattle.listing.proofs.line.push_number.Reads as push-number-reads
 
--- src/line.rt:25:9
 push-number-requires : tie.Need-push-number-requires
 push-number-requires c κs = search needs
 
--- src/line.rt:26:9
 push-number-requires-2 : tie.Need-push-number-requires-2
 push-number-requires-2 c κs = omega (arith, number-length (c .before .before .before .before .before .before .args .a) 32, c .before .before .before .push-number .ensures .0 .behind)
 
--- src/line.rt:27:5
 push-number-requires-3 : tie.Need-push-number-requires-3
 push-number-requires-3 c κs =
     let a = c .before .before .before .before .before .before .before .before .before .before .args in
     omega (arith, number-length (a .a) 32, number-length (a .b) 32, c .before .before .before .push-number2 .ensures .0 .behind, c .before .before .before .before .before .before .before .push-number .ensures .0 .behind)
 
--- src/line.rt:22:1
 same-length : tie.Need-same-length
 same-length c = search needs
 
--- src/line.rt:22:1
 returns : tie.Need-returns
 unfolding refusalLine joined
 returns c =

@@ -1,3 +1,5 @@
+-- `listing::names::push_term` meets its contract.
+-- Assumes nothing.
 use Prim.Native.Nat.{_-_, _≤_}
 use native.Mathlib.Omega.{arith}
 use borrow.Author.Needs.{needs}
@@ -9,11 +11,6 @@ use Rattle.terms.specs.Terms.{termName}
 use Rattle.terms.proofs.NameTable.{name-short}
 use Rattle.listing.proofs.names.push_term.Statement.{statement}
 use Rattle.listing.proofs.names.push_term.Tie as tie
-use Rattle.listing.proofs.names.push_term.Reads as reads
-use Rattle.listing.proofs.names.push_term.Lts as lts
-use Rattle.common.proofs.text.push_byte.Reads as push-byte-reads
-use Rattle.terms.proofs.name_byte.Reads as name-byte-reads
-use Rattle.terms.proofs.name_length.Reads as name-length-reads
 
 abbrev Inv-loop : tie.InvT-loop
 Inv-loop out₀ at rank n i₀ to₀ out i to = (i ≤ length (termName rank)) × Pushed out₀ at (take i (termName rank)) out to
@@ -21,19 +18,15 @@ Inv-loop out₀ at rank n i₀ to₀ out i to = (i ≤ length (termName rank)) �
 abbrev μ-loop : tie.MeasureT-loop
 μ-loop out₀ at rank n i₀ to₀ out i to = n - i
 
--- src/names.rt:99:9
 name-length-requires : tie.Need-name-length-requires Inv-loop μ-loop
 name-length-requires c κs = search needs
 
--- src/names.rt:102:5
 loop-holds : tie.Need-loop-holds Inv-loop μ-loop
 loop-holds c = (omega arith, pushed-none (now (c .before .before .args .out)) (c .before .before .args .at))
 
--- src/names.rt:103:33
 name-byte-requires : tie.Need-name-byte-requires Inv-loop μ-loop
 name-byte-requires c κs = search needs
 
--- src/names.rt:103:9
 push-byte-requires : tie.Need-push-byte-requires Inv-loop μ-loop
 push-byte-requires c κs =
     let a = c .before .before .before .before .before .before .args in
@@ -43,15 +36,12 @@ push-byte-requires c κs =
     let m = name-short (a .rank) in
     omega arith
 
--- src/names.rt:104:9
 add-i : tie.Need-add-i Inv-loop μ-loop
 add-i c = omega arith
 
--- src/names.rt:102:5
 loop-less : tie.Need-loop-less Inv-loop μ-loop
 loop-less c = omega arith
 
--- src/names.rt:102:5
 loop-again : tie.Need-loop-again Inv-loop μ-loop
 loop-again c =
     let a = c .before .before .before .before .before .before .before .before .before .args in
@@ -59,11 +49,9 @@ loop-again c =
     let e = c .before .before .before .before .before .before .before .name-length .ensures in
     (omega arith, pushed-more (termName (a .rank)) (l .i) (omega arith) (l .inv .1) (rw (c .before .before .before .name-byte .ensures) at (c .before .before .push-byte .ensures)))
 
--- src/names.rt:95:1
 same-length : tie.Need-same-length Inv-loop μ-loop
 same-length c = pushed-length (c .before .loop .inv .1)
 
--- src/names.rt:95:1
 returns : tie.Need-returns Inv-loop μ-loop
 returns c =
     let a = c .before .before .before .before .args in

@@ -1,20 +1,17 @@
+-- `listing::open::bad_files` meets its contract.
+-- Assumes nothing.
 use native.Mathlib.Omega.{arith}
 use denote.Ref.{now}
 use Rattle.listing.proofs.FilesJudged.{short-window, long-window, right-window}
 use Rattle.listing.proofs.open.bad_files.Statement.{statement}
 use Rattle.listing.proofs.open.bad_files.Tie as tie
-use Rattle.listing.proofs.open.bad_files.Reads as reads
-use Rattle.listing.proofs.open.bad_files.Lts as lts
 
--- src/open.rt:19:9
 returns : tie.Need-returns
 returns c = let a = c .before .args in short-window (now (a .window)) (now (a .calls)) (omega arith)
 
--- src/open.rt:22:9
 returns-2 : tie.Need-returns-2
 returns-2 c = let a = c .before .before .args in long-window (now (a .window)) (now (a .calls)) (omega arith) (omega arith)
 
--- src/open.rt:15:1
 returns-3 : tie.Need-returns-3
 returns-3 c = let a = c .before .before .args in right-window (now (a .window)) (now (a .calls)) (omega arith) (omega arith)
 

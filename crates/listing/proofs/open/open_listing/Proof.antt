@@ -1,3 +1,5 @@
+-- `listing::open::open_listing` meets its contract.
+-- Assumes nothing.
 use mathlib.Core.Path.{sym, _∙_}
 use native.Mathlib.Omega.{arith}
 use denote.Ref.{now}
@@ -5,56 +7,52 @@ use Rattle.listing.proofs.FilesJudged.{right-files, deck-refused, files
 use borrow.Author.Needs.{needs}
 use Rattle.listing.proofs.open.open_listing.Statement.{statement}
 use Rattle.listing.proofs.open.open_listing.Tie as tie
-use Rattle.listing.proofs.open.open_listing.Reads as reads
-use Rattle.listing.proofs.open.open_listing.Lts as lts
-use Rattle.common.proofs.little.u16_at.Reads as u16-at-reads
-use Rattle.common.proofs.little.u64_at.Reads as u64-at-reads
-use Rattle.deck.proofs.read_deck.Reads as read-deck-reads
-use Rattle.listing.proofs.open.bad_files.Reads as bad-files-reads
-use Rattle.listing.proofs.open.not_opened.Reads as not-opened-reads
 
--- src/open.rt:42:9
 read-deck-requires : tie.Need-read-deck-requires
 read-deck-requires c κs = search needs
 
--- src/open.rt:45:34
 enum-known-answer : tie.Need-enum-known-answer
 enum-known-answer c = search needs
 
--- src/open.rt:46:9
 not-opened-requires : tie.Need-not-opened-requires
 not-opened-requires c κs = search needs
 
--- src/open.rt:46:9
 returns : tie.Need-returns
-returns c = let a = c .before .before .before .before .before .before .before .before .before .args in deck-refused (now (a .deck)) (now (a .window)) (now (a .calls)) (c .before .before .before .before .before .read-deck .ensures) (c .before .before .answer .given .1) (c .not-opened .ensures)
+returns c =
+    let a = c .before .before .before .before .before .before .before .before .before .args in
+    deck-refused (now (a .deck)) (now (a .window)) (now (a .calls)) (c .before .before .before .before .before .read-deck .ensures) (c .before .before .answer .given .1) (c .not-opened .ensures)
 
 enum-told : tie.Need-enum-told
 enum-told c = search needs
 
--- src/open.rt:48:8
 bad-files-requires : tie.Need-bad-files-requires
 bad-files-requires c κs = search needs
 
--- src/open.rt:49:9
 not-opened-requires-2 : tie.Need-not-opened-requires-2
 not-opened-requires-2 c κs = search needs
 
--- src/open.rt:49:9
 returns-2 : tie.Need-returns-2
-returns-2 c = let a = c .before .before .before .before .before .before .before .before .before .before .args in files-refused (now (a .deck)) (now (a .window)) (now (a .calls)) (c .before .before .before .before .before .before .read-deck .ensures) (c .before .before .before .enum-told .given .1) (c .before .before .bad-files .ensures) (c .before .if1 .taken) (c .not-opened2 .ensures)
+returns-2 c =
+    let a = c .before .before .before .before .before .before .before .before .before .before .args in
+    files-refused (now (a .deck)) (now (a .window)) (now (a .calls)) (c .before .before .before .before .before .before .read-deck .ensures) (c .before .before .before .enum-told .given .1) (c .before .before .bad-files .ensures)
+    (c .before .if1 .taken) (c .not-opened2 .ensures)
 
--- src/open.rt:54:28
 u16-at-requires : tie.Need-u16-at-requires
-u16-at-requires c κs = let a = c .before .before .before .before .before .before .before .before .before .args in let r = right-files (now (a .window)) (now (a .calls)) (sym (c .before .bad-files .ensures) ∙ c .if1 .left) .0 in omega arith
+u16-at-requires c κs =
+    let a = c .before .before .before .before .before .before .before .before .before .args in
+    let r = right-files (now (a .window)) (now (a .calls)) (sym (c .before .bad-files .ensures) ∙ c .if1 .left) .0 in
+    omega arith
 
--- src/open.rt:55:23
 u64-at-requires : tie.Need-u64-at-requires
-u64-at-requires c κs = let a = c .before .before .before .before .before .before .before .before .before .before .args in right-files (now (a .window)) (now (a .calls)) (sym (c .before .before .bad-files .ensures) ∙ c .before .if1 .left) .0
+u64-at-requires c κs =
+    let a = c .before .before .before .before .before .before .before .before .before .before .args in
+    right-files (now (a .window)) (now (a .calls)) (sym (c .before .before .bad-files .ensures) ∙ c .before .if1 .left) .0
 
--- src/open.rt:39:1
 returns-3 : tie.Need-returns-3
-returns-3 c = let a = c .before .before .before .before .before .before .before .before .before .before .before .args in files-right (now (a .deck)) (now (a .window)) (now (a .calls)) (c .before .before .before .before .before .before .before .read-deck .ensures) (c .before .before .before .before .enum-told .given .1) (c .before .before .before .bad-files .ensures) (c .before .before .if1 .left) (c .before .u16-at .ensures) (c .u64-at .ensures)
+returns-3 c =
+    let a = c .before .before .before .before .before .before .before .before .before .before .before .args in
+    files-right (now (a .deck)) (now (a .window)) (now (a .calls)) (c .before .before .before .before .before .before .before .read-deck .ensures) (c .before .before .before .before .enum-told .given .1) (c .before .before .before .bad-files .ensures)
+    (c .before .before .if1 .left) (c .before .u16-at .ensures) (c .u64-at .ensures)
 
 pub open-listing-spec : {M : Type 1} → statement M
 open-listing-spec =

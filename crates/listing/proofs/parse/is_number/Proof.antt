@@ -1,3 +1,5 @@
+-- `listing::parse::is_number` meets its contract.
+-- Assumes nothing.
 use Prim.Native.Nat.{_-_, _≤_}
 use mathlib.Core.Path.{_≡_, refl, sym, _∙_}
 use native.Mathlib.Omega.{arith}
@@ -8,8 +10,6 @@ use Rattle.listing.specs.Calls.{isDigit}
 use Rattle.listing.proofs.Numbers.{digit-on, digit-low, digit-high, digit-none, number-empty, number-long, number-letter, number-one, number-more}
 use Rattle.listing.proofs.parse.is_number.Statement.{statement}
 use Rattle.listing.proofs.parse.is_number.Tie as tie
-use Rattle.listing.proofs.parse.is_number.Reads as reads
-use Rattle.listing.proofs.parse.is_number.Lts as lts
 
 abbrev Inv-loop : tie.InvT-loop
 Inv-loop s most i₀ i = (i ≤ length s) × (all isDigit (drop i s) ≡ all isDigit s)
@@ -17,63 +17,51 @@ Inv-loop s most i₀ i = (i ≤ length s) × (all isDigit (drop i s) ≡ all isD
 abbrev μ-loop : tie.MeasureT-loop
 μ-loop s most i₀ i = length s - i
 
--- src/parse.rt:46:9
 returns : tie.Need-returns Inv-loop μ-loop
 returns c = number-empty (c .before .args .most) (now (c .before .args .s)) (c .if1 .taken)
 
--- src/parse.rt:49:9
 returns-2 : tie.Need-returns-2 Inv-loop μ-loop
 returns-2 c = number-long (c .before .before .args .most) (now (c .before .before .args .s)) (c .if2 .taken)
 
--- src/parse.rt:52:5
 loop-holds : tie.Need-loop-holds Inv-loop μ-loop
 loop-holds c = (omega arith, refl)
 
--- src/parse.rt:53:17
 shared-slice-read-b : tie.Need-shared-slice-read-b Inv-loop μ-loop
 shared-slice-read-b c = omega arith
 
--- src/parse.rt:55:13
 returns-3 : tie.Need-returns-3 Inv-loop μ-loop
 returns-3 c =
     let a = c .before .before .before .before .before .before .args in
     let l = c .before .before .before .loop in
     number-letter (a .most) (now (a .s)) (omega arith) (omega arith) (sym (l .inv .1) ∙ digit-low (now (a .s)) (l .i) (omega arith) (c .if3 .taken))
 
--- src/parse.rt:58:13
 returns-4 : tie.Need-returns-4 Inv-loop μ-loop
 returns-4 c =
     let a = c .before .before .before .before .before .before .before .args in
     let l = c .before .before .before .before .loop in
     number-letter (a .most) (now (a .s)) (omega arith) (omega arith) (sym (l .inv .1) ∙ digit-high (now (a .s)) (l .i) (omega arith) (c .if4 .taken))
 
--- src/parse.rt:60:9
 add-i : tie.Need-add-i Inv-loop μ-loop
 add-i c = omega arith
 
--- src/parse.rt:52:5
 loop-less : tie.Need-loop-less Inv-loop μ-loop
 loop-less c = omega arith
 
--- src/parse.rt:52:5
 loop-again : tie.Need-loop-again Inv-loop μ-loop
 loop-again c =
     let a = c .before .before .before .before .before .before .before .args in
     let l = c .before .before .before .before .loop in
     (omega arith, sym (digit-on (now (a .s)) (l .i) (omega arith) (omega arith) (omega arith)) ∙ l .inv .1)
 
--- src/parse.rt:63:9
 returns-5 : tie.Need-returns-5 Inv-loop μ-loop
 returns-5 c =
     let a = c .before .before .before .before .before .args in
     let l = c .before .before .loop in
     number-one (a .most) (now (a .s)) (omega arith) (omega arith) (sym (l .inv .1) ∙ digit-none (now (a .s)) (l .i) (omega arith))
 
--- src/parse.rt:65:5
 shared-slice-read-result : tie.Need-shared-slice-read-result Inv-loop μ-loop
 shared-slice-read-result c = omega arith
 
--- src/parse.rt:42:1
 returns-6 : tie.Need-returns-6 Inv-loop μ-loop
 returns-6 c =
     let a = c .before .before .before .before .before .before .args in

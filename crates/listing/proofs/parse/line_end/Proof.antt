@@ -1,3 +1,5 @@
+-- `listing::parse::line_end` meets its contract.
+-- Assumes nothing.
 use Prim.Native.Nat.{_+_, _-_, _≤_}
 use mathlib.Core.Path.{_≡_, refl}
 use native.Mathlib.Omega.{arith}
@@ -7,8 +9,6 @@ use Rattle.listing.specs.Calls.{lineLength}
 use Rattle.listing.proofs.Lines.{line-on, line-stop, line-none}
 use Rattle.listing.proofs.parse.line_end.Statement.{statement}
 use Rattle.listing.proofs.parse.line_end.Tie as tie
-use Rattle.listing.proofs.parse.line_end.Reads as reads
-use Rattle.listing.proofs.parse.line_end.Lts as lts
 
 abbrev Inv-loop : tie.InvT-loop
 Inv-loop s at i₀ i = (at ≤ i) × (i ≤ length s) × (i + lineLength (drop i s) ≡ at + lineLength (drop at s))
@@ -16,35 +16,27 @@ Inv-loop s at i₀ i = (at ≤ i) × (i ≤ length s) × (i + lineLength (drop i
 abbrev μ-loop : tie.MeasureT-loop
 μ-loop s at i₀ i = length s - i
 
--- src/parse.rt:17:5
 loop-holds : tie.Need-loop-holds Inv-loop μ-loop
 loop-holds c = (omega arith, omega arith, refl)
 
--- src/parse.rt:18:12
 shared-slice-read-if1 : tie.Need-shared-slice-read-if1 Inv-loop μ-loop
 shared-slice-read-if1 c = omega arith
 
--- src/parse.rt:19:20
 add-result : tie.Need-add-result Inv-loop μ-loop
 add-result c = omega arith
 
--- src/parse.rt:19:13
 returns : tie.Need-returns Inv-loop μ-loop
 returns c = let e = line-stop (now (c .before .before .before .before .args .s)) (c .before .before .before .loop .i) (omega arith) (c .if1 .taken) in omega arith
 
--- src/parse.rt:21:9
 add-i : tie.Need-add-i Inv-loop μ-loop
 add-i c = omega arith
 
--- src/parse.rt:17:5
 loop-less : tie.Need-loop-less Inv-loop μ-loop
 loop-less c = omega arith
 
--- src/parse.rt:17:5
 loop-again : tie.Need-loop-again Inv-loop μ-loop
 loop-again c = let e = line-on (now (c .before .before .before .before .args .s)) (c .before .before .before .loop .i) (omega arith) (c .if1 .left) in omega arith
 
--- src/parse.rt:12:1
 returns-2 : tie.Need-returns-2 Inv-loop μ-loop
 returns-2 c = let e = line-none (now (c .before .before .args .s)) (c .before .loop .i) (omega arith) in omega arith
 

@@ -1,3 +1,5 @@
+-- `listing::parse::number_of` meets its contract.
+-- Assumes nothing.
 use Prim.Native.Nat.{_+_, _*_, _-_, _≤_}
 use mathlib.Core.Path.{_≡_, refl, sym, _∙_}
 use native.Mathlib.Omega.{arith}
@@ -7,9 +9,6 @@ use Rattle.listing.specs.Calls.{value, valueFrom}
 use Rattle.listing.proofs.Numbers.{number-digits, digit-at, value-on, value-none, value-ge, value-below}
 use Rattle.listing.proofs.parse.number_of.Statement.{statement}
 use Rattle.listing.proofs.parse.number_of.Tie as tie
-use Rattle.listing.proofs.parse.number_of.Reads as reads
-use Rattle.listing.proofs.parse.number_of.Lts as lts
-use Rattle.common.proofs.text.wide.Reads as wide-reads
 
 abbrev Inv-loop : tie.InvT-loop
 Inv-loop s n₀ i₀ n i = (i ≤ length s) × (valueFrom n (drop i s) ≡ value s)
@@ -17,11 +16,9 @@ Inv-loop s n₀ i₀ n i = (i ≤ length s) × (valueFrom n (drop i s) ≡ value
 abbrev μ-loop : tie.MeasureT-loop
 μ-loop s n₀ i₀ n i = length s - i
 
--- src/parse.rt:75:5
 loop-holds : tie.Need-loop-holds Inv-loop μ-loop
 loop-holds c = (omega arith, refl)
 
--- src/parse.rt:76:13
 mul-n : tie.Need-mul-n Inv-loop μ-loop
 mul-n c =
     let s = now (c .before .before .before .args .s) in
@@ -31,19 +28,15 @@ mul-n c =
     let d = value-below 19 s (c .before .before .before .pre) in
     omega arith
 
--- src/parse.rt:76:27
 shared-slice-read-wide : tie.Need-shared-slice-read-wide Inv-loop μ-loop
 shared-slice-read-wide c = omega arith
 
--- src/parse.rt:76:27
 sub-wide : tie.Need-sub-wide Inv-loop μ-loop
 sub-wide c = digit-at (now (c .before .before .before .before .args .s)) (c .before .before .loop .i) (number-digits 19 (now (c .before .before .before .before .args .s)) (c .before .before .before .before .pre)) (omega arith) .0
 
--- src/parse.rt:76:22
 wide-requires : tie.Need-wide-requires Inv-loop μ-loop
 wide-requires c κs = tt
 
--- src/parse.rt:76:13
 add-n : tie.Need-add-n Inv-loop μ-loop
 add-n c =
     let s = now (c .before .before .before .before .before .args .s) in
@@ -54,22 +47,18 @@ add-n c =
     let w = c .wide .ensures in
     omega arith
 
--- src/parse.rt:77:9
 add-i : tie.Need-add-i Inv-loop μ-loop
 add-i c = omega arith
 
--- src/parse.rt:75:5
 loop-less : tie.Need-loop-less Inv-loop μ-loop
 loop-less c = omega arith
 
--- src/parse.rt:75:5
 loop-again : tie.Need-loop-again Inv-loop μ-loop
 loop-again c =
     let s = now (c .before .before .before .before .before .args .s) in
     let l = c .before .before .before .loop in
     (omega arith, rw (c .wide .ensures) (sym (value-on s (l .n) (l .i) (omega arith)) ∙ l .inv .1))
 
--- src/parse.rt:69:1
 returns : tie.Need-returns Inv-loop μ-loop
 returns c = sym (value-none (now (c .before .before .before .args .s)) (c .before .loop .n) (c .before .loop .i) (omega arith)) ∙ c .before .loop .inv .1
 

@@ -1,3 +1,5 @@
+-- `listing::parse::parse_call` meets its contract.
+-- Assumes nothing.
 use Prim.Native.Nat.{_+_, _-_, _<_}
 use mathlib.Core.Path.{_≡_, sym, _∙_}
 use mathlib.Core.Bool.{true}
@@ -12,11 +14,6 @@ use Rattle.listing.proofs.Fields.{field-within, one-field, two-fields, 
 use borrow.Author.Needs.{needs}
 use Rattle.listing.proofs.parse.parse_call.Statement.{statement}
 use Rattle.listing.proofs.parse.parse_call.Tie as tie
-use Rattle.listing.proofs.parse.parse_call.Reads as reads
-use Rattle.listing.proofs.parse.parse_call.Lts as lts
-use Rattle.listing.proofs.parse.field_end.Reads as field-end-reads
-use Rattle.listing.proofs.parse.is_number.Reads as is-number-reads
-use Rattle.listing.proofs.parse.number_of.Reads as number-of-reads
 
 -- each of the first three fields ends before the line does
 space-1 : (c : tie.Else1) → c .before .field-end .result < length (now (c .before .before .before .args .line))
@@ -56,151 +53,114 @@ is-1 c = sym (not-false (c .before .is-number .result) (c .if5 .left)) ∙ c .be
 is-2 : (c : tie.Else6) → true ≡ isNumber 19 (take (c .before .before .before .before .before .before .before .before .before .before .before .field-end2 .result - (c .before .before .before .before .before .before .before .before .before .before .before .before .before .field-end .result + 1)) (drop (c .before .before .before .before .before .before .before .before .before .before .before .before .before .field-end .result + 1) (now (c .before .before .before .before .before .before .before .before .before .before .before .before .before .before .before .args .line))))
 is-2 c = sym (not-false (c .before .is-number2 .result) (c .if6 .left)) ∙ c .before .is-number2 .ensures
 
--- src/parse.rt:87:9
 field-end-requires : tie.Need-field-end-requires
 field-end-requires c κs = search needs
 
--- src/parse.rt:89:9
 returns : tie.Need-returns
 returns c = one-field (now (c .before .before .before .args .line)) (c .before .field-end .result) (c .before .field-end .ensures) (c .if1 .taken)
 
--- src/parse.rt:91:34
 add-field-end : tie.Need-add-field-end
 add-field-end c = let h = space-1 c in omega arith
 
--- src/parse.rt:91:9
 field-end-requires-2 : tie.Need-field-end-requires-2
 field-end-requires-2 c κs = let h = space-1 c in omega arith
 
--- src/parse.rt:93:9
 returns-2 : tie.Need-returns-2
 returns-2 c = two-fields (now (c .before .before .before .before .before .args .line)) (c .before .before .before .field-end .result) (c .before .field-end2 .result) (c .before .before .before .field-end .ensures) (space-1 (c .before .before)) (c .before .field-end2 .ensures) (c .if2 .taken)
 
--- src/parse.rt:95:33
 add-field-end-2 : tie.Need-add-field-end-2
 add-field-end-2 c = let h = space-2 c in omega arith
 
--- src/parse.rt:95:9
 field-end-requires-3 : tie.Need-field-end-requires-3
 field-end-requires-3 c κs = let h = space-2 c in omega arith
 
--- src/parse.rt:97:9
 returns-3 : tie.Need-returns-3
 returns-3 c = three-fields (now (c .before .before .before .before .before .before .before .args .line)) (c .before .before .before .before .before .field-end .result) (c .before .before .before .field-end2 .result) (c .before .field-end3 .result) (c .before .before .before .before .before .field-end .ensures) (space-1 (c .before .before .before .before)) (c .before .before .before .field-end2 .ensures) (space-2 (c .before .before)) (c .before .field-end3 .ensures) (c .if3 .taken)
 
--- src/parse.rt:99:34
 add-field-end-3 : tie.Need-add-field-end-3
 add-field-end-3 c = let h = space-3 c in omega arith
 
--- src/parse.rt:99:9
 field-end-requires-4 : tie.Need-field-end-requires-4
 field-end-requires-4 c κs = let h = space-3 c in omega arith
 
--- src/parse.rt:101:9
 returns-4 : tie.Need-returns-4
 returns-4 c = five-fields (now (c .before .before .before .before .before .before .before .before .before .args .line)) (c .before .before .before .before .before .before .before .field-end .result) (c .before .before .before .before .before .field-end2 .result) (c .before .before .before .field-end3 .result) (c .before .before .before .before .before .before .before .field-end .ensures) (space-1 (c .before .before .before .before .before .before)) (c .before .before .before .before .before .field-end2 .ensures) (space-2 (c .before .before .before .before)) (c .before .before .before .field-end3 .ensures) (c .before .field-end4 .result) (space-3 (c .before .before)) (c .before .field-end4 .ensures) (c .if4 .taken)
 
--- src/parse.rt:103:9
 slice-aggregate-chromosome : tie.Need-slice-aggregate-chromosome
 slice-aggregate-chromosome c = let h = space-1 (c .before .before .before .before .before .before .before) in sym (length-take-le (c .before .before .before .before .before .before .before .before .field-end .result) (now (c .before .before .before .before .before .before .before .before .before .before .args .line)) (omega arith))
 
--- src/parse.rt:104:16
 add-from : tie.Need-add-from
 add-from c = search needs
 
--- src/parse.rt:105:20
 sub-position : tie.Need-sub-position
 sub-position c = search needs
 
--- src/parse.rt:105:20
 part-position-start : tie.Need-part-position-start
 part-position-start c = search needs
 
--- src/parse.rt:105:20
 part-position-end : tie.Need-part-position-end
 part-position-end c = search needs
 
--- src/parse.rt:106:9
 is-number-requires : tie.Need-is-number-requires
 is-number-requires c κs = search needs
 
--- src/parse.rt:107:9
 returns-5 : tie.Need-returns-5
 returns-5 c = let a = c .before .before .before .before in no-chromosome (now (a .before .before .before .before .before .before .before .before .before .args .line)) (a .before .before .before .before .before .before .before .field-end .result) (a .before .before .before .before .before .field-end2 .result) (a .before .before .before .field-end3 .result) (split a) (sym (not-true (c .before .is-number .result) (c .if5 .taken)) ∙ c .before .is-number .ensures)
 
--- src/parse.rt:109:9
 is-number-requires-2 : tie.Need-is-number-requires-2
 is-number-requires-2 c κs = search needs
 
--- src/parse.rt:110:9
 returns-6 : tie.Need-returns-6
 returns-6 c = let a = c .before .before .before .before .before .before in no-position (now (a .before .before .before .before .before .before .before .before .before .args .line)) (a .before .before .before .before .before .before .before .field-end .result) (a .before .before .before .before .before .field-end2 .result) (a .before .before .before .field-end3 .result) (split a) (is-1 (c .before .before)) (sym (not-true (c .before .is-number2 .result) (c .if6 .taken)) ∙ c .before .is-number2 .ensures)
 
--- src/parse.rt:112:17
 add-if7 : tie.Need-add-if7
 add-if7 c = search needs
 
--- src/parse.rt:113:9
 returns-7 : tie.Need-returns-7
 returns-7 c = let a = c .before .before .before .before .before .before .before in no-ref (now (a .before .before .before .before .before .before .before .before .before .args .line)) (a .before .before .before .before .before .before .before .field-end .result) (a .before .before .before .before .before .field-end2 .result) (a .before .before .before .field-end3 .result) (split a) (is-1 (c .before .before .before)) (is-2 (c .before)) (c .if7 .taken)
 
--- src/parse.rt:115:13
 add-if8 : tie.Need-add-if8
 add-if8 c = search needs
 
--- src/parse.rt:116:9
 returns-8 : tie.Need-returns-8
 returns-8 c = let a = c .before .before .before .before .before .before .before .before in no-alt (now (a .before .before .before .before .before .before .before .before .before .args .line)) (a .before .before .before .before .before .before .before .field-end .result) (a .before .before .before .before .before .field-end2 .result) (a .before .before .before .field-end3 .result) (split a) (is-1 (c .before .before .before .before)) (is-2 (c .before .before)) (c .before .if7 .left) (c .if8 .taken)
 
--- src/parse.rt:118:13
 add-if9 : tie.Need-add-if9
 add-if9 c = search needs
 
--- src/parse.rt:118:8
 shared-slice-read-if9 : tie.Need-shared-slice-read-if9
 shared-slice-read-if9 c = search needs
 
--- src/parse.rt:119:9
 returns-9 : tie.Need-returns-9
 returns-9 c = let a = c .before .before .before .before .before .before .before .before .before .before in no-newline (now (a .before .before .before .before .before .before .before .before .before .args .line)) (a .before .before .before .before .before .before .before .field-end .result) (a .before .before .before .before .before .field-end2 .result) (a .before .before .before .field-end3 .result) (split a) (is-1 (c .before .before .before .before .before .before)) (is-2 (c .before .before .before .before)) (c .before .before .before .if7 .left) (c .before .before .if8 .left) (c .if9 .taken)
 
--- src/parse.rt:121:26
 add-reference : tie.Need-add-reference
 add-reference c = search needs
 
--- src/parse.rt:121:21
 shared-slice-read-reference : tie.Need-shared-slice-read-reference
 shared-slice-read-reference c = search needs
 
--- src/parse.rt:123:9
 returns-10 : tie.Need-returns-10
 returns-10 c = let a = c .before .before .before .before .before .before .before .before .before .before .before .before in newline-ref (now (a .before .before .before .before .before .before .before .before .before .args .line)) (a .before .before .before .before .before .before .before .field-end .result) (a .before .before .before .before .before .field-end2 .result) (a .before .before .before .field-end3 .result) (split a) (is-1 (c .before .before .before .before .before .before .before .before)) (is-2 (c .before .before .before .before .before .before)) (c .before .before .before .before .before .if7 .left) (c .before .before .before .before .if8 .left) (c .before .before .if9 .left) (c .if10 .taken)
 
--- src/parse.rt:125:24
 add-altered : tie.Need-add-altered
 add-altered c = search needs
 
--- src/parse.rt:125:19
 shared-slice-read-altered : tie.Need-shared-slice-read-altered
 shared-slice-read-altered c = search needs
 
--- src/parse.rt:127:9
 returns-11 : tie.Need-returns-11
 returns-11 c = let a = c .before .before .before .before .before .before .before .before .before .before .before .before .before .before in newline-alt (now (a .before .before .before .before .before .before .before .before .before .args .line)) (a .before .before .before .before .before .before .before .field-end .result) (a .before .before .before .before .before .field-end2 .result) (a .before .before .before .field-end3 .result) (split a) (is-1 (c .before .before .before .before .before .before .before .before .before .before)) (is-2 (c .before .before .before .before .before .before .before .before)) (c .before .before .before .before .before .before .before .if7 .left) (c .before .before .before .before .before .before .if8 .left) (c .before .before .before .before .if9 .left) (c .before .before .if10 .left) (c .if11 .taken)
 
--- src/parse.rt:130:21
 number-of-requires : tie.Need-number-of-requires
 number-of-requires c κs = number-wider (take (c .before .before .before .before .before .before .before .before .before .before .before .before .before .before .before .before .before .before .before .before .before .field-end .result) (now (c .before .before .before .before .before .before .before .before .before .before .before .before .before .before .before .before .before .before .before .before .before .before .before .args .line))) (sym (is-1 (c .before .before .before .before .before .before .before .before .before .before)))
 
--- src/parse.rt:130:21
 cast-t23 : tie.Need-cast-t23
 cast-t23 c = let h = value-below 3 (take (c .before .before .before .before .before .before .before .before .before .before .before .before .before .before .before .before .before .before .before .before .before .before .field-end .result) (now (c .before .before .before .before .before .before .before .before .before .before .before .before .before .before .before .before .before .before .before .before .before .before .before .before .args .line))) (sym (is-1 (c .before .before .before .before .before .before .before .before .before .before .before))) in let e = c .number-of .ensures in omega arith
 
--- src/parse.rt:131:19
 number-of-requires-2 : tie.Need-number-of-requires-2
 number-of-requires-2 c κs = sym (is-2 (c .before .before .before .before .before .before .before .before .before))
 
--- src/parse.rt:83:1
 returns-12 : tie.Need-returns-12
 returns-12 c =
     let a = c .before .before .before .before .before .before .before .before .before .before .before .before .before .before .before .before in

@@ -1,21 +1,17 @@
+-- `listing::step::behind_transcript` meets its contract.
+-- Assumes nothing.
 use denote.Ref.{now}
 use Rattle.listing.proofs.Answering.{same-call, next-call}
 use borrow.Author.Needs.{needs}
 use Rattle.listing.proofs.step.behind_transcript.Statement.{statement}
 use Rattle.listing.proofs.step.behind_transcript.Tie as tie
-use Rattle.listing.proofs.step.behind_transcript.Reads as reads
-use Rattle.listing.proofs.step.behind_transcript.Lts as lts
-use Rattle.listing.proofs.step.is_transcript.Reads as is-transcript-reads
 
--- src/step.rt:31:8
 is-transcript-requires : tie.Need-is-transcript-requires
 is-transcript-requires c κs = search needs
 
--- src/step.rt:32:9
 returns : tie.Need-returns
 returns c = let a = c .before .before .args in same-call (now (a .kinds)) (a .to) (a .cursor) (a .behind) (c .before .is-transcript .ensures) (c .if1 .taken)
 
--- src/step.rt:28:1
 returns-2 : tie.Need-returns-2
 returns-2 c = let a = c .before .before .args in next-call (now (a .kinds)) (a .to) (a .cursor) (a .behind) (c .before .is-transcript .ensures) (c .if1 .left)
 

@@ -1,23 +1,19 @@
+-- `listing::step::line_listed` meets its contract.
+-- Assumes nothing.
 use Rattle.listing.proofs.Answering.{listed-by}
 use borrow.Author.Needs.{needs}
 use Rattle.listing.proofs.step.line_listed.Statement.{statement}
 use Rattle.listing.proofs.step.line_listed.Tie as tie
-use Rattle.listing.proofs.step.line_listed.Reads as reads
-use Rattle.listing.proofs.step.line_listed.Lts as lts
 
--- src/step.rt:46:24
 enum-known-w : tie.Need-enum-known-w
 enum-known-w c = search needs
 
--- src/step.rt:47:26
 enum-known-w-2 : tie.Need-enum-known-w-2
 enum-known-w-2 c = search needs
 
--- src/step.rt:42:1
 returns : tie.Need-returns
 returns c = listed-by (c .before .before .before .args .next) (c .before .w .given .1)
 
--- src/step.rt:42:1
 returns-2 : tie.Need-returns-2
 returns-2 c = listed-by (c .before .before .before .args .next) (c .before .w2 .given .1)
 
