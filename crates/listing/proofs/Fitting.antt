@@ -36,6 +36,14 @@ module _ (out line : List ℕ) {x : List ℕ} {n : ℕ} (p : Pushed [] 0 line x 
       let b : after ≡ stored out 0 line = rw nothing at (q .bytes) in
       rw (long, e) (refl, b ∙ stored-whole out line h2)
 
+-- a line that is known to fit is put at once
+pub put-whole : (out line : List ℕ) {after : List ℕ} {n : ℕ} → n ≤ length out → Pushed out 0 line after n → (Written.Bytes n ≡ writeAnswer out line) × (after ≡ writtenTo out line)
+put-whole out line {after} {n} h q =
+    let b = q .behind in
+    let e : n ≡ length line = omega arith in
+    let h2 : length line ≤ length out = omega arith in
+    rw (e, le-leb (length line) (length out) h2) (refl, q .bytes ∙ stored-whole out line h2)
+
 pub number-length : (n e : ℕ) → length (decimal n ++ (e ∷ [])) ≤ 21
 number-length n e = let a = length-append (decimal n) (e ∷ []) in let b = digits-length 20 n in omega arith
 

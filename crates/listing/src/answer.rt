@@ -55,6 +55,7 @@ fn push_numbers(out: &mut [u8], at: usize, x: ConsequenceResult) -> usize
 fn push_back(out: &mut [u8], at: usize, x: ConsequenceResult) -> usize
     requires { ⌜ at + 2100 < 2 ^ 64 ⌝ }
     ensures { λ r. ⌜ Pushed (now (out .entry)) at (backColumns x) (now (out .exit)) r ⌝ }
+    ensures { λ r. ⌜ r ≤ at + 1293 ⌝ }
 {
     let codons = x.codons;
     let letters = x.amino_acids;
@@ -70,6 +71,7 @@ fn push_back(out: &mut [u8], at: usize, x: ConsequenceResult) -> usize
 // The line of an answered call at the buffer's start, as far as that reaches; the line's length.
 fn push_answer(out: &mut [u8], number: u64, id: u64, x: ConsequenceResult) -> usize
     ensures { λ r. ⌜ Pushed (now (out .entry)) 0 (answerLine number id x) (now (out .exit)) r ⌝ }
+    ensures { λ r. ⌜ r ≤ 1553 ⌝ }
 {
     let location = x.location;
     let kind = place_kind(location);
@@ -78,8 +80,8 @@ fn push_answer(out: &mut [u8], number: u64, id: u64, x: ConsequenceResult) -> us
     push_back(out, b, x)
 }
 
-// The line of an answered call, or 28 where it does not fit.
-pub fn write_answer(out: &mut [u8], number: u64, id: u64, x: ConsequenceResult) -> Written
+// The line of an answered call in a buffer of any length: measured first, then put, or 28.
+fn write_measured(out: &mut [u8], number: u64, id: u64, x: ConsequenceResult) -> Written
     ensures { λ r. ⌜ (r ≡ writeAnswer (now (out .entry)) (answerLine number id x)) × (now (out .exit) ≡ writtenTo (now (out .entry)) (answerLine number id x)) ⌝ }
 {
     let n = push_answer(&mut out[..0], number, id, x);
@@ -88,4 +90,14 @@ pub fn write_answer(out: &mut [u8], number: u64, id: u64, x: ConsequenceResult) 
     }
     push_answer(out, number, id, x);
     Written::Bytes(n)
+}
+
+// The line of an answered call, or 28 where it does not fit. No line has over 1553 bytes.
+pub fn write_answer(out: &mut [u8], number: u64, id: u64, x: ConsequenceResult) -> Written
+    ensures { λ r. ⌜ (r ≡ writeAnswer (now (out .entry)) (answerLine number id x)) × (now (out .exit) ≡ writtenTo (now (out .entry)) (answerLine number id x)) ⌝ }
+{
+    if out.len() < 1553 {
+        return write_measured(out, number, id, x);
+    }
+    Written::Bytes(push_answer(out, number, id, x))
 }

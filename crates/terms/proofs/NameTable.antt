@@ -2,16 +2,18 @@
 -- Assumes nothing.
 use Prim.Native.Nat.{ℕ, zero, suc, _+_, _-_, _*_, _/_, _%_, _≤_, _<_}
 use Prim.Native.String.{String}
-use mathlib.Core.Path.{_≡_, refl, ap}
+use mathlib.Core.Path.{_≡_, refl, _∙_, ap}
 use mathlib.Core.Bool.{true}
 use mathlib.Core.List.{List, [], _∷_}
 use native.Mathlib.Omega.{arith}
-use lib.ListN.{length, getD, List·getD-eq-default}
+use lib.ListN.{length, getD, take, drop, length-drop, List·getD-eq-default}
+use lib.Seq.{length-take-le, getD-take, getD-drop, ext-getD}
 use lib.Dec.{leb}
 use borrow.Author.Tests.{leb-true, leb-false}
 use Rattle.common.specs.Lists.{all}
 use Rattle.common.specs.Text.{byte, bytes}
 use Rattle.common.proofs.TestParts.{and-true, on-test}
+use Rattle.common.proofs.Table.{entries, entry-at}
 use Rattle.terms.specs.Names.{termNames, termName}
 
 -- a number over 28 has no name
@@ -64,3 +66,30 @@ entry-is r i h =
     let x : ((r - 1) * 34 + i) / 34 + 1 ≡ r = omega arith in
     let y : ((r - 1) * 34 + i) % 34 ≡ i = omega arith in
     rw (x, y) (getD-any (termName r) i (byte " ") 0 h)
+
+-- the table's part from the rank's first byte on is its name
+entries-length : (f : ℕ → ℕ) (n i : ℕ) → length (entries f n i) ≡ n
+entries-length f zero i = refl
+entries-length f (suc n) i = ap suc (entries-length f n (suc i))
+
+pub name-part : (r : ℕ) → 0 < length (termName r) → take (length (termName r)) (drop ((r - 1) * 34) (entries nameEntry 952 0)) ≡ termName r
+name-part r h =
+    let n = named r 0 h in
+    let s = name-short r in
+    let l = entries-length nameEntry 952 0 in
+    let m = length-drop ((r - 1) * 34) (entries nameEntry 952 0) in
+    let a = n .low in
+    let b = n .high in
+    let k = length-take-le (length (termName r)) (drop ((r - 1) * 34) (entries nameEntry 952 0)) (omega arith) in
+    ext-getD 0 (take (length (termName r)) (drop ((r - 1) * 34) (entries nameEntry 952 0))) (termName r) k
+    (λ i j. (let u : i < length (termName r) = rw k at j in
+    getD-take (length (termName r)) (drop ((r - 1) * 34) (entries nameEntry 952 0)) i 0 u
+    ∙ getD-drop ((r - 1) * 34) (entries nameEntry 952 0) i 0
+    ∙ entry-at nameEntry 952 ((r - 1) * 34 + i) (omega arith) ∙ entry-is r i u))
+
+pub nameless : (r : ℕ) → length (termName r) ≡ 0 → termName r ≡ []
+nameless r h = here (termName r) h
+  where
+    here : (l : List ℕ) → length l ≡ 0 → l ≡ []
+    here [] e = refl
+    here (x ∷ xs) e = absurd (omega arith)

@@ -1,6 +1,9 @@
 // The terms' names.
+use common::text::push_bytes;
+ghost use Prim.Native.Nat.{_+_, _<_, _^_};
 ghost use mathlib.Core.Path.{_≡_};
 ghost use lib.ListN.{length, getD};
+ghost use Rattle.common.specs.Stored.{Pushed};
 ghost use Rattle.terms.specs.Names.{termName};
 
 // The Ontology's names by rank, 34 bytes for each, filled up with spaces.
@@ -35,7 +38,7 @@ feature_elongation                \
 intergenic_variant                ";
 
 // The lengths of the names of the ranks 0 to 28.
-const NAME_LENGTHS: [usize; 29] = [
+const NAME_LENGTHS: [u8; 29] = [
     0,
     19,
     24,
@@ -74,7 +77,7 @@ pub fn name_length(rank: u32) -> usize
     if rank > 28 {
         return 0;
     }
-    NAME_LENGTHS[rank as usize]
+    NAME_LENGTHS[rank as usize] as usize
 }
 
 // The byte at i of that name; 0 past its end.
@@ -85,4 +88,19 @@ pub fn name_byte(rank: u32, i: usize) -> u8
         return 0;
     }
     NAMES[(rank as usize - 1) * 34 + i]
+}
+
+// That name, put into a lent buffer from a position on; the position behind it.
+pub fn push_name(out: &mut [u8], at: usize, rank: u32) -> usize
+    requires { ⌜ at + 64 < 2 ^ 64 ⌝ }
+    ensures { λ r. ⌜ Pushed (now (out .entry)) at (termName rank) (now (out .exit)) r ⌝ }
+{
+    let n = name_length(rank);
+    if n == 0 {
+        return at;
+    }
+    let from = (rank as usize - 1) * 34;
+    let to = from + n;
+    let names = NAMES;
+    push_bytes(out, at, &names[from..to])
 }

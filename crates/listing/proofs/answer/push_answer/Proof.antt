@@ -1,5 +1,6 @@
 -- `listing::answer::push_answer` meets its contract.
 -- Assumes nothing.
+use native.Mathlib.Omega.{arith}
 use Rattle.common.proofs.Stored.{pushed-on}
 use Rattle.listing.proofs.AnswerLine.{line-parts}
 use borrow.Author.Needs.{needs}
@@ -22,7 +23,12 @@ same-length : tie.Need-same-length
 same-length c = search needs
 
 returns : tie.Need-returns
-returns c = let a = c .before .before .before .before .before .before .before .before .before .before .before .before .before .before .args in rw (line-parts (a .number) (a .id) (a .x)) at (pushed-on (pushed-on (rw (c .before .before .before .before .before .before .before .before .before .before .before .before .place-kind .ensures) at (c .before .before .before .before .before .before .before .before .before .before .push-front .ensures .0)) (c .before .before .before .before .before .before .push-numbers .ensures .0)) (c .before .before .push-back .ensures))
+returns c =
+    let a = c .before .before .before .before .before .before .before .before .before .before .before .before .before .before .args in
+    let k = c .before .before .before .before .before .before .before .before .before .before .push-front .ensures .1 in
+    let l = c .before .before .before .before .before .before .push-numbers .ensures .1 in
+    let m = c .before .before .push-back .ensures .1 in
+    (rw (line-parts (a .number) (a .id) (a .x)) at (pushed-on (pushed-on (rw (c .before .before .before .before .before .before .before .before .before .before .before .before .place-kind .ensures) at (c .before .before .before .before .before .before .before .before .before .before .push-front .ensures .0)) (c .before .before .before .before .before .before .push-numbers .ensures .0)) (c .before .before .push-back .ensures .0)), omega arith)
 
 pub push-answer-spec : {M : Type 1} → statement M
 push-answer-spec =

@@ -1,5 +1,6 @@
 -- `listing::answer::push_back` meets its contract.
 -- Assumes nothing.
+use native.Mathlib.Omega.{arith}
 use Rattle.common.proofs.Stored.{pushed-on}
 use Rattle.listing.specs.Line.{backColumns}
 use borrow.Author.Needs.{needs}
@@ -29,7 +30,14 @@ same-length c = search needs
 
 returns : tie.Need-returns
 unfolding backColumns
-returns c = pushed-on (c .before .before .before .before .before .before .before .before .before .before .before .before .before .before .before .before .before .before .before .before .before .before .push-codons .ensures .0) (pushed-on (c .before .before .before .before .before .before .before .before .before .before .before .before .before .before .before .before .before .before .push-byte .ensures) (pushed-on (c .before .before .before .before .before .before .before .before .before .before .before .before .before .before .push-letters .ensures .0) (pushed-on (c .before .before .before .before .before .before .before .before .before .before .push-byte2 .ensures) (pushed-on (c .before .before .before .before .before .before .push-terms .ensures .0) (c .before .before .push-byte3 .ensures)))))
+returns c =
+    let k = c .before .before .before .before .before .before .before .before .before .before .before .before .before .before .before .before .before .before .before .before .before .before .push-codons .ensures .1 in
+    let l = c .before .before .before .before .before .before .before .before .before .before .before .before .before .before .before .before .before .before .push-byte .ensures .behind in
+    let m = c .before .before .before .before .before .before .before .before .before .before .before .before .before .before .push-letters .ensures .1 in
+    let n = c .before .before .before .before .before .before .before .before .before .before .push-byte2 .ensures .behind in
+    let t = c .before .before .before .before .before .before .push-terms .ensures .1 in
+    let u = c .before .before .push-byte3 .ensures .behind in
+    (pushed-on (c .before .before .before .before .before .before .before .before .before .before .before .before .before .before .before .before .before .before .before .before .before .before .push-codons .ensures .0) (pushed-on (c .before .before .before .before .before .before .before .before .before .before .before .before .before .before .before .before .before .before .push-byte .ensures) (pushed-on (c .before .before .before .before .before .before .before .before .before .before .before .before .before .before .push-letters .ensures .0) (pushed-on (c .before .before .before .before .before .before .before .before .before .before .push-byte2 .ensures) (pushed-on (c .before .before .before .before .before .before .push-terms .ensures .0) (c .before .before .push-byte3 .ensures))))), omega arith)
 
 pub push-back-spec : {M : Type 1} → statement M
 push-back-spec =

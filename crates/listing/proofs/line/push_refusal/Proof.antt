@@ -30,7 +30,10 @@ unfolding refusalLine joined
 returns c =
     let a = c .before .before .before .before .before .before .before .before .before .before .before .before .before .args in
     let e : ((decimal (a .a) ++ (32 ∷ [])) ++ (decimal (a .b) ++ (32 ∷ []))) ++ (decimal (a .c) ++ (10 ∷ [])) ≡ refusalLine (a .a) (a .b) (a .c) = simp append-assoc in
-    rw e at (pushed-on (pushed-on (c .before .before .before .before .before .before .before .before .before .before .push-number .ensures .0) (c .before .before .before .before .before .before .push-number2 .ensures .0)) (c .before .before .push-number3 .ensures .0))
+    let k = c .before .before .before .before .before .before .before .before .before .before .push-number .ensures .1 in
+    let l = c .before .before .before .before .before .before .push-number2 .ensures .1 in
+    let m = c .before .before .push-number3 .ensures .1 in
+    (rw e at (pushed-on (pushed-on (c .before .before .before .before .before .before .before .before .before .before .push-number .ensures .0) (c .before .before .before .before .before .before .push-number2 .ensures .0)) (c .before .before .push-number3 .ensures .0)), omega arith)
 
 pub push-refusal-spec : {M : Type 1} → statement M
 push-refusal-spec =
