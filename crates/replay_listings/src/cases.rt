@@ -1,0 +1,80 @@
+// One case of the list.
+use crate::lines::compare_listing;
+use crate::stored::read_part;
+use crate::stored::room;
+use crate::stored::skip;
+use common::little::u32_at;
+use libc::STDOUT_FILENO;
+ghost use Prim.Native.Nat.{_≤_, _<_};
+ghost use mathlib.Core.Path.{_≡_};
+ghost use lib.ListN.{length};
+
+// What became of a case: its lines that are the same, 1 where it differs, and whether it was there as a whole.
+pub(crate) struct Outcome {
+    pub lines: u64,
+    pub different: u64,
+    pub whole: bool,
+}
+
+fn report(what: &[u8], number: u64) {
+    io::write_all(STDOUT_FILENO, what);
+    io::print_decimal(STDOUT_FILENO, number);
+}
+
+// No case, or none that can be judged.
+pub(crate) fn no_case() -> Outcome
+    ensures { λ r. ⌜ (r .lines ≡ 0) × (r .different ≡ 0) ⌝ }
+{
+    Outcome {
+        lines: 0,
+        different: 0,
+        whole: false,
+    }
+}
+
+pub(crate) fn cut_off(number: u64) -> Outcome
+    ensures { λ r. ⌜ (r .lines ≡ 0) × (r .different ≡ 0) ⌝ }
+{
+    report(b"not whole or too long: case ", number);
+    io::write_all(STDOUT_FILENO, b"\n");
+    no_case()
+}
+
+// The number of four bytes at i.
+fn size_at(sizes: &[u8; 16], i: usize) -> usize
+    requires { ⌜ i ≤ 12 ⌝ }
+{
+    u32_at(sizes, i) as usize
+}
+
+// Reads a case behind its four lengths, lists it and compares.
+pub(crate) fn replay_case(number: u64, sizes: &[u8; 16]) -> Outcome
+    ensures { λ r. ⌜ (r .lines < 1000000000) × (r .different ≤ 1) ⌝ }
+{
+    let mut deck = room();
+    let mut window = room();
+    let mut calls = room();
+    let d = read_part(&mut deck, size_at(sizes, 0));
+    let w = read_part(&mut window, size_at(sizes, 4));
+    let c = read_part(&mut calls, size_at(sizes, 8));
+    if d != size_at(sizes, 0) || w != size_at(sizes, 4) || c != size_at(sizes, 8) {
+        return cut_off(number);
+    }
+    let compared = compare_listing(&deck[..d], &window[..w], &calls[..c], size_at(sizes, 12));
+    if compared.same {
+        return Outcome {
+            lines: compared.lines,
+            different: 0,
+            whole: true,
+        };
+    }
+    report(b"different: case ", number);
+    report(b" line ", compared.lines + 1);
+    io::write_all(STDOUT_FILENO, b"\n");
+    skip(compared.left);
+    Outcome {
+        lines: compared.lines,
+        different: 1,
+        whole: true,
+    }
+}
