@@ -18,6 +18,7 @@ mod place;
 mod record;
 mod rng;
 mod shape;
+mod terms;
 
 use std::io::Write;
 use std::process::ExitCode;
@@ -29,11 +30,12 @@ pub fn run() -> ExitCode {
         Some("places") => write(&list_places::list()),
         Some("intervals") => write(&list_intervals::list()),
         Some("calls") => write(&list_calls::list()),
+        Some("terms") => write(&terms::list()),
         Some("ask") if arguments.len() > 1 => ask::answer_all(arguments.into_iter().skip(1)),
         Some("ask") => ask::answer_all(std::io::stdin().lines().map_while(Result::ok)),
         Some("listing") if arguments.len() == 3 => listing::run(&arguments[1], &arguments[2]),
         _ => Err(
-            "usage: oracle index | places | intervals | calls | ask [LINE ...] \
+            "usage: oracle index | places | intervals | calls | terms | ask [LINE ...] \
                   | listing DECK WINDOW"
                 .to_string(),
         ),

@@ -1,0 +1,52 @@
+-- The bytes are passed one by one.
+-- Assumes nothing.
+use Prim.Native.Nat.{_≤_, _-_}
+use lib.ListN.{length}
+use native.Mathlib.Omega.{arith}
+use Rattle.term_table.proofs.begins_line.Statement.{statement}
+use Rattle.term_table.proofs.begins_line.Tie as tie
+
+abbrev Inv-loop : tie.InvT-loop
+Inv-loop row rank i₀ i = i ≤ length row
+
+abbrev μ-loop : tie.MeasureT-loop
+μ-loop row rank i₀ i = length row - i
+
+loop-holds : tie.Need-loop-holds Inv-loop μ-loop
+loop-holds c = omega arith
+
+shared-slice-read-if1 : tie.Need-shared-slice-read-if1 Inv-loop μ-loop
+shared-slice-read-if1 c = omega arith
+
+line-byte-requires : tie.Need-line-byte-requires Inv-loop μ-loop
+line-byte-requires c κs = omega arith
+
+returns : tie.Need-returns Inv-loop μ-loop
+returns c = omega arith
+
+add-i : tie.Need-add-i Inv-loop μ-loop
+add-i c = omega arith
+
+loop-less : tie.Need-loop-less Inv-loop μ-loop
+loop-less c = omega arith
+
+loop-again : tie.Need-loop-again Inv-loop μ-loop
+loop-again c = omega arith
+
+returns-2 : tie.Need-returns-2 Inv-loop μ-loop
+returns-2 c = omega arith
+
+pub begins-line-spec : {M : Type 1} → statement M
+begins-line-spec =
+    tie.close
+    (tie.spec
+    Inv-loop
+    μ-loop
+    loop-holds
+    shared-slice-read-if1
+    line-byte-requires
+    returns
+    add-i
+    loop-less
+    loop-again
+    returns-2)
