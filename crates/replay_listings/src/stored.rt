@@ -23,7 +23,7 @@ pub(crate) fn read_part(into: &mut [u8], n: usize) -> usize
     io::read_full(STDIN_FILENO, &mut into[..n])
 }
 
-// Whether the next bytes are those of the line; as many are read.
+// Whether the next bytes are those of the line, which has at most 4,096; as many are read.
 pub(crate) fn is_next(line: &[u8]) -> bool {
     let mut held = io::buffer();
     let n = read_part(&mut held, line.len());
