@@ -8,7 +8,7 @@ ghost use Rattle.locate.specs.Place.{isExonicSpliceRegion};
 ghost use Rattle.locate.specs.Exonic.{counts, exonicOf, Countable, headOf};
 
 // The splice mark of the base p of exon i, [start, end), of n exons.
-pub fn is_exonic_splice_region(n: usize, i: usize, start: u64, end: u64, p: u64) -> bool
+pub(crate) fn is_exonic_splice_region(n: usize, i: usize, start: u64, end: u64, p: u64) -> bool
     requires { ⌜ (i < n) × (n ≤ maxExons) × (start ≤ p) × (p < end) × (end ≤ top) ⌝ }
     ensures { λ r. ⌜ r ≡ isExonicSpliceRegion n i (interval start end) p ⌝ }
 {
@@ -24,7 +24,7 @@ pub fn is_exonic_splice_region(n: usize, i: usize, start: u64, end: u64, p: u64)
 }
 
 // The first exon index, 0 where there is none.
-pub fn first_index(indexes: &[u16]) -> u16
+pub(crate) fn first_index(indexes: &[u16]) -> u16
     ensures { λ r. ⌜ r ≡ headOf (now (indexes .entry)) ⌝ }
 {
     if indexes.len() == 0 {
@@ -34,7 +34,7 @@ pub fn first_index(indexes: &[u16]) -> u16
 }
 
 // The place of the base p of exon i: of the 5'UTR, the 3'UTR or the CDS.
-pub fn exonic_place(
+pub(crate) fn exonic_place(
     coding: bool,
     before: u32,
     utr5: u32,

@@ -22,7 +22,7 @@ ghost use Rattle.transcript.specs.Admission.{admission};
 ghost use Rattle.locate.specs.Index.{indexScalars, locateIndex};
 
 // The exon of the last coding base, from that of the first: each exon from the first to the last has a segment.
-pub fn last_exon(first: u16, segments: usize) -> u16
+pub(crate) fn last_exon(first: u16, segments: usize) -> u16
     requires { ⌜ (first + segments ≤ 65536) × (segments ≤ maxExons) ⌝ }
     ensures { λ r. ⌜ r ≡ cond (ltb 0 segments) (first + segments - 1) 0 ⌝ }
 {
@@ -33,7 +33,7 @@ pub fn last_exon(first: u16, segments: usize) -> u16
 }
 
 // The scalars of the index of an admitted transcript, from its cumulative lengths.
-pub fn scalars_of(
+pub(crate) fn scalars_of(
     model: TranscriptModel,
     exon_starts: &[u64],
     exon_ends: &[u64],

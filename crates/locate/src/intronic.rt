@@ -9,7 +9,7 @@ ghost use Rattle.transcript.specs.Orient.{interval};
 ghost use Rattle.locate.specs.Intronic.{signedDistance, spliceRegion, deepIntron, classifyDistances, classifyIntronic};
 
 // Plus the donor distance where it is at most the acceptor distance, else minus the acceptor distance.
-pub fn signed_distance(d: u64, a: u64) -> i64
+pub(crate) fn signed_distance(d: u64, a: u64) -> i64
     requires { ⌜ (d ≤ top) × (a ≤ top) ⌝ }
     ensures { λ r. ⌜ r ≡ signedDistance d a ⌝ }
 {
@@ -17,7 +17,7 @@ pub fn signed_distance(d: u64, a: u64) -> i64
 }
 
 // The side in range; where both are, the nearer one, the donor on a tie.
-pub fn splice_region(i: u16, d: u64, a: u64) -> VariantLocation
+pub(crate) fn splice_region(i: u16, d: u64, a: u64) -> VariantLocation
     requires { ⌜ (d ≤ top) × (a ≤ top) ⌝ }
     ensures { λ r. ⌜ r ≡ spliceRegion sourceRanges i d a ⌝ }
 {
@@ -49,7 +49,7 @@ pub fn splice_region(i: u16, d: u64, a: u64) -> VariantLocation
     }
 }
 
-pub fn deep_intron(coding: bool, i: u16, distance: i64) -> VariantLocation
+pub(crate) fn deep_intron(coding: bool, i: u16, distance: i64) -> VariantLocation
     ensures { λ r. ⌜ r ≡ deepIntron coding i distance ⌝ }
 {
     if coding {
@@ -65,7 +65,7 @@ pub fn deep_intron(coding: bool, i: u16, distance: i64) -> VariantLocation
 }
 
 // The place in intron i of length `gap`, at donor distance d and acceptor distance a.
-pub fn classify_distances(coding: bool, i: u16, gap: u64, d: u64, a: u64) -> VariantLocation
+pub(crate) fn classify_distances(coding: bool, i: u16, gap: u64, d: u64, a: u64) -> VariantLocation
     requires { ⌜ (d ≤ top) × (a ≤ top) ⌝ }
     ensures { λ r. ⌜ r ≡ classifyDistances sourceRanges coding i gap d a ⌝ }
 {
@@ -97,7 +97,13 @@ pub fn classify_distances(coding: bool, i: u16, gap: u64, d: u64, a: u64) -> Var
 }
 
 // The place of the base p of intron i, [start, end).
-pub fn classify_intronic(coding: bool, i: u16, start: u64, end: u64, p: u64) -> VariantLocation
+pub(crate) fn classify_intronic(
+    coding: bool,
+    i: u16,
+    start: u64,
+    end: u64,
+    p: u64,
+) -> VariantLocation
     requires { ⌜ (start ≤ p) × (p < end) × (end ≤ top) ⌝ }
     ensures { λ r. ⌜ r ≡ classifyIntronic sourceRanges coding i (interval start end) p ⌝ }
 {

@@ -24,7 +24,7 @@ ghost use Rattle.locate.specs.Index.{indexScalars, locateIndex};
 ghost use Rattle.locate.specs.Place.{isExonicSpliceRegion, exonic, locate};
 ghost use Rattle.locate.specs.Search.{Holds, upstreamBy, downstreamBy};
 
-pub fn upstream_place(d: u64) -> VariantLocation
+pub(crate) fn upstream_place(d: u64) -> VariantLocation
     ensures { λ r. ⌜ r ≡ upstreamBy sourceRanges d ⌝ }
 {
     if d <= 5000 {
@@ -33,7 +33,7 @@ pub fn upstream_place(d: u64) -> VariantLocation
     VariantLocation::Distal
 }
 
-pub fn downstream_place(d: u64) -> VariantLocation
+pub(crate) fn downstream_place(d: u64) -> VariantLocation
     ensures { λ r. ⌜ r ≡ downstreamBy sourceRanges d ⌝ }
 {
     if d <= 5000 {
@@ -43,7 +43,7 @@ pub fn downstream_place(d: u64) -> VariantLocation
 }
 
 // The place of the base p of exon i, [start, end).
-pub fn exon_base(
+pub(crate) fn exon_base(
     model: TranscriptModel,
     exon_starts: &[u64],
     exon_ends: &[u64],

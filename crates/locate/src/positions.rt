@@ -17,7 +17,7 @@ ghost use Rattle.locate.specs.Search.{Ready};
 ghost use Rattle.locate.specs.Sums.{firstSum, Sums};
 
 // The sum at i and the bases from `start` to p.
-pub fn offset_at(sums: &[u32; 513], i: usize, start: u64, p: u64) -> u32
+pub(crate) fn offset_at(sums: &[u32; 513], i: usize, start: u64, p: u64) -> u32
     requires { ⌜ (i < 513) × (getD (now sums) i 0 ≤ 2 + top) × (start ≤ p) × (p ≤ top) ⌝ }
     ensures { λ r. ⌜ r ≡ getD (now (sums .entry)) i 0 + (p - start) ⌝ }
 {
@@ -25,7 +25,7 @@ pub fn offset_at(sums: &[u32; 513], i: usize, start: u64, p: u64) -> u32
 }
 
 // The padded offset of p, an oriented base of one of the intervals; `sums` are their cumulative lengths.
-pub fn cds_offset_of(
+pub(crate) fn cds_offset_of(
     starts: &[u64],
     ends: &[u64],
     strand: Strand,
@@ -46,7 +46,7 @@ pub fn cds_offset_of(
 }
 
 // The exonic bases before the CDS, whose first base `from` lies in exon `first`; 0 where there is no CDS.
-pub fn utr5_length(
+pub(crate) fn utr5_length(
     coding: bool,
     starts: &[u64],
     ends: &[u64],

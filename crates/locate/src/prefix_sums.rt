@@ -15,7 +15,7 @@ ghost use Rattle.transcript.specs.Bases.{sum};
 ghost use Rattle.transcript.specs.Lent.{exonSize};
 
 // The lengths of the intervals, summed up from `first` on.
-pub fn cumulative_of(starts: &[u64], ends: &[u64], first: u32) -> Cumulative
+pub(crate) fn cumulative_of(starts: &[u64], ends: &[u64], first: u32) -> Cumulative
     requires { ⌜ (length (now starts) ≡ length (now ends)) × (length (now starts) ≤ maxExons) ⌝ }
     requires { ⌜ any badExon (exonsOf (now starts) (now ends)) ≡ false ⌝ }
     requires { ⌜ first + sum (map exonSize (exonsOf (now starts) (now ends))) ≤ 2 + top ⌝ }

@@ -12,7 +12,7 @@ ghost use Rattle.transcript.specs.Lent.{lentExons};
 ghost use Rattle.locate.specs.Search.{Ready, Started, exonOrIntron, FoundAt};
 
 // How many exons start at or before p, an oriented coordinate.
-pub fn started(starts: &[u64], ends: &[u64], strand: Strand, p: u64) -> usize
+pub(crate) fn started(starts: &[u64], ends: &[u64], strand: Strand, p: u64) -> usize
     requires { ⌜ Ready strand (now starts) (now ends) ⌝ }
     ensures { λ r. ⌜ (r ≤ length (now (starts .entry))) × Started (lentExons strand (now (starts .entry)) (now (ends .entry))) p r ⌝ }
 {
@@ -32,7 +32,12 @@ pub fn started(starts: &[u64], ends: &[u64], strand: Strand, p: u64) -> usize
 }
 
 // The exon or intron that holds p, an oriented coordinate at or after the first start, with its edges.
-pub fn find_exon_or_intron(starts: &[u64], ends: &[u64], strand: Strand, p: u64) -> ExonOrIntron
+pub(crate) fn find_exon_or_intron(
+    starts: &[u64],
+    ends: &[u64],
+    strand: Strand,
+    p: u64,
+) -> ExonOrIntron
     requires { ⌜ Ready strand (now starts) (now ends) ⌝ }
     requires { ⌜ firstStart (lentExons strand (now starts) (now ends)) ≤ p ⌝ }
     ensures { λ r. ⌜ (r ≡ exonOrIntron (findExonOrIntron (lentExons strand (now (starts .entry)) (now (ends .entry))) p)) × FoundAt (lentExons strand (now (starts .entry)) (now (ends .entry))) p r ⌝ }

@@ -14,7 +14,7 @@ ghost use Rattle.common.specs.Stored.{filled};
 ghost use Rattle.locate.specs.Coded.{Coded};
 
 // The codon number of each selenocysteine base.
-pub fn selenocysteine_codons(
+pub(crate) fn selenocysteine_codons(
     starts: &[u64],
     ends: &[u64],
     strand: Strand,

@@ -17,20 +17,20 @@ ghost use Rattle.transcript.specs.Admission.{badExon};
 ghost use Rattle.transcript.specs.Cuts.{cutAt, cuts, sameCut, sameCuts};
 ghost use Rattle.transcript.specs.Lent.{listedCuts, Cuttable, cdsFault};
 
-pub fn larger(a: u64, b: u64) -> u64
+pub(crate) fn larger(a: u64, b: u64) -> u64
     ensures { λ r. ⌜ r ≡ max a b ⌝ }
 {
     if a < b { b } else { a }
 }
 
-pub fn smaller(a: u64, b: u64) -> u64
+pub(crate) fn smaller(a: u64, b: u64) -> u64
     ensures { λ r. ⌜ r ≡ min a b ⌝ }
 {
     if a < b { a } else { b }
 }
 
 // Whether segment k is [lo, hi), oriented, of exon i.
-pub fn is_cut(
+pub(crate) fn is_cut(
     indexes: &[u16],
     starts: &[u64],
     ends: &[u64],
@@ -57,7 +57,7 @@ pub fn is_cut(
 }
 
 // Whether the segments are the nonempty exon-CDS intersections in strand order, each with its exon's index.
-pub fn are_cuts(
+pub(crate) fn are_cuts(
     starts: &[u64],
     ends: &[u64],
     strand: Strand,
@@ -96,7 +96,7 @@ pub fn are_cuts(
 }
 
 // 10, 11, 12: the first and the last coding base, and the segments. `coding`: there are segments.
-pub fn cds_fault(
+pub(crate) fn cds_fault(
     coding: bool,
     starts: &[u64],
     ends: &[u64],

@@ -12,7 +12,7 @@ ghost use Rattle.transcript.specs.Lent.{badListed};
 const LIMIT: u64 = 1_000_000_000;
 
 // 1: whether lists of one thing have one length.
-pub fn are_even(
+pub(crate) fn are_even(
     starts: usize,
     ends: usize,
     phases: usize,
@@ -35,7 +35,7 @@ pub fn are_even(
 }
 
 // 1: the lengths of the lists.
-pub fn bad_numbers(count: u16, exons: usize, segments: usize, bases: usize) -> bool
+pub(crate) fn bad_numbers(count: u16, exons: usize, segments: usize, bases: usize) -> bool
     ensures { λ r. ⌜ r ≡ badNumbers count exons segments bases ⌝ }
 {
     if exons == 0 {
@@ -54,7 +54,7 @@ pub fn bad_numbers(count: u16, exons: usize, segments: usize, bases: usize) -> b
 }
 
 // 2: an interval whose start is not below its end or whose end is over the limit.
-pub fn bad_edges(starts: &[u64], ends: &[u64]) -> bool
+pub(crate) fn bad_edges(starts: &[u64], ends: &[u64]) -> bool
     requires { ⌜ length (now starts) ≡ length (now ends) ⌝ }
     ensures { λ r. ⌜ r ≡ any badExon (exonsOf (now (starts .entry)) (now (ends .entry))) ⌝ }
 {
@@ -74,7 +74,7 @@ pub fn bad_edges(starts: &[u64], ends: &[u64]) -> bool
 }
 
 // 2: a base over the limit.
-pub fn bad_bases(bases: &[u64]) -> bool
+pub(crate) fn bad_bases(bases: &[u64]) -> bool
     ensures { λ r. ⌜ r ≡ any overLimit (now (bases .entry)) ⌝ }
 {
     let mut i = 0;
@@ -112,7 +112,7 @@ pub fn end_or_zero(cds: CdsBounds) -> u64
 }
 
 // 2: the bounds and the chromosome.
-pub fn bad_scalars(model: TranscriptModel) -> bool
+pub(crate) fn bad_scalars(model: TranscriptModel) -> bool
     ensures { λ r. ⌜ r ≡ badScalars model ⌝ }
 {
     let cds = model.cds;
@@ -135,7 +135,7 @@ pub fn bad_scalars(model: TranscriptModel) -> bool
 }
 
 // 2: edges, bases, bounds and chromosome.
-pub fn bad_coordinates(
+pub(crate) fn bad_coordinates(
     model: TranscriptModel,
     exon_starts: &[u64],
     exon_ends: &[u64],

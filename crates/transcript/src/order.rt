@@ -17,7 +17,7 @@ ghost use Rattle.transcript.specs.Admission.{badExon, ascending, notOute
 ghost use Rattle.transcript.specs.Lent.{phaseOver, padOfPhases};
 
 // Whether each exon starts at or after the end of the one before it, in strand order.
-pub fn in_order(starts: &[u64], ends: &[u64], strand: Strand) -> bool
+pub(crate) fn in_order(starts: &[u64], ends: &[u64], strand: Strand) -> bool
     requires { ⌜ length (now starts) ≡ length (now ends) ⌝ }
     requires { ⌜ any badExon (exonsOf (now starts) (now ends)) ≡ false ⌝ }
     ensures { λ r. ⌜ r ≡ ascending 0 (map (orientExon strand) (exonsOf (now (starts .entry)) (now (ends .entry)))) ⌝ }
@@ -37,7 +37,13 @@ pub fn in_order(starts: &[u64], ends: &[u64], strand: Strand) -> bool
 }
 
 // 4: the transcript's bounds are not the outer exon edges.
-pub fn bad_bounds(starts: &[u64], ends: &[u64], strand: Strand, tx_start: u64, tx_end: u64) -> bool
+pub(crate) fn bad_bounds(
+    starts: &[u64],
+    ends: &[u64],
+    strand: Strand,
+    tx_start: u64,
+    tx_end: u64,
+) -> bool
     requires { ⌜ length (now starts) ≡ length (now ends) ⌝ }
     requires { ⌜ 0 < length (now starts) ⌝ }
     requires { ⌜ any badExon (exonsOf (now starts) (now ends)) ≡ false ⌝ }
@@ -56,7 +62,7 @@ pub fn bad_bounds(starts: &[u64], ends: &[u64], strand: Strand, tx_start: u64, t
 }
 
 // 5: bounds without segments or the reverse, or start not below end.
-pub fn bad_cds(cds: CdsBounds, segments: bool) -> bool
+pub(crate) fn bad_cds(cds: CdsBounds, segments: bool) -> bool
     ensures { λ r. ⌜ r ≡ badCdsBounds cds segments ⌝ }
 {
     match cds {
@@ -74,7 +80,7 @@ pub fn bad_cds(cds: CdsBounds, segments: bool) -> bool
 }
 
 // 6: a phase over 2.
-pub fn bad_phases(phases: &[u8]) -> bool
+pub(crate) fn bad_phases(phases: &[u8]) -> bool
     ensures { λ r. ⌜ r ≡ any phaseOver (now (phases .entry)) ⌝ }
 {
     let mut i = 0;
@@ -100,7 +106,7 @@ pub fn pad_of(phases: &[u8]) -> u8
 }
 
 // 7: a pad that is not 0 where the start is complete.
-pub fn bad_pad(phases: &[u8], complete: bool) -> bool
+pub(crate) fn bad_pad(phases: &[u8], complete: bool) -> bool
     requires { ⌜ any phaseOver (now phases) ≡ false ⌝ }
     ensures { λ r. ⌜ r ≡ (not (eqb (padOfPhases (now (phases .entry))) 0) && complete) ⌝ }
 {

@@ -31,7 +31,7 @@ pub fn end_of(strand: Strand, s: u64, e: u64) -> u64
 }
 
 // The first base of [s, e) in strand order, as a coordinate.
-pub fn first_base(strand: Strand, s: u64, e: u64) -> u64
+pub(crate) fn first_base(strand: Strand, s: u64, e: u64) -> u64
     requires { ⌜ (s < e) × (e ≤ coordinateLimit) ⌝ }
     ensures { λ r. ⌜ orientBase strand r ≡ orient strand s e .start ⌝ }
 {
@@ -42,7 +42,7 @@ pub fn first_base(strand: Strand, s: u64, e: u64) -> u64
 }
 
 // The last base of [s, e) in strand order, as a coordinate.
-pub fn last_base(strand: Strand, s: u64, e: u64) -> u64
+pub(crate) fn last_base(strand: Strand, s: u64, e: u64) -> u64
     requires { ⌜ (s < e) × (e ≤ coordinateLimit) ⌝ }
     ensures { λ r. ⌜ orientBase strand r ≡ orient strand s e .end - 1 ⌝ }
 {

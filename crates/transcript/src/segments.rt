@@ -12,7 +12,7 @@ ghost use Rattle.transcript.specs.Admission.{indexFault};
 ghost use Rattle.transcript.specs.Lent.{holds, holdsNone};
 
 // 8, 9: the first index that names no exon, or one that an earlier index names.
-pub fn index_fault(exons: usize, indexes: &[u16]) -> u8
+pub(crate) fn index_fault(exons: usize, indexes: &[u16]) -> u8
     requires { ⌜ exons ≤ maxExons ⌝ }
     ensures { λ r. ⌜ r ≡ indexFault exons [] (now (indexes .entry)) ⌝ }
 {
@@ -43,7 +43,7 @@ pub fn lies_in(p: u64, s: u64, e: u64) -> bool
 }
 
 // Whether one of the intervals holds the base.
-pub fn holds_base(starts: &[u64], ends: &[u64], p: u64) -> bool
+pub(crate) fn holds_base(starts: &[u64], ends: &[u64], p: u64) -> bool
     requires { ⌜ length (now starts) ≡ length (now ends) ⌝ }
     ensures { λ r. ⌜ r ≡ any (holds p) (exonsOf (now (starts .entry)) (now (ends .entry))) ⌝ }
 {
@@ -60,7 +60,7 @@ pub fn holds_base(starts: &[u64], ends: &[u64], p: u64) -> bool
 }
 
 // 13: a base that no segment holds.
-pub fn bad_selenocysteine(bases: &[u64], starts: &[u64], ends: &[u64]) -> bool
+pub(crate) fn bad_selenocysteine(bases: &[u64], starts: &[u64], ends: &[u64]) -> bool
     requires { ⌜ length (now starts) ≡ length (now ends) ⌝ }
     ensures { λ r. ⌜ r ≡ any (holdsNone (exonsOf (now (starts .entry)) (now (ends .entry)))) (now (bases .entry)) ⌝ }
 {
