@@ -1,4 +1,5 @@
 // Base numbers and complements.
+use crate::Codon;
 ghost use mathlib.Core.Path.{_≡_};
 ghost use Rattle.codon.specs.Bases.{baseNumber, complementOf};
 
@@ -26,6 +27,25 @@ pub(crate) fn base_number(b: u8) -> u8
     ensures { λ r. ⌜ r ≡ baseNumber b ⌝ }
 {
     BASE_NUMBERS[b as usize]
+}
+
+// The numbers of three bytes as bases.
+pub(crate) struct BaseNumbers {
+    pub first: u8,
+    pub second: u8,
+    pub third: u8,
+}
+
+// The numbers of a codon's bases, from one reading of the table.
+pub(crate) fn base_numbers(c: Codon) -> BaseNumbers
+    ensures { λ r. ⌜ (r .first ≡ baseNumber (c .first)) × (r .second ≡ baseNumber (c .second)) × (r .third ≡ baseNumber (c .third)) ⌝ }
+{
+    let numbers = BASE_NUMBERS;
+    BaseNumbers {
+        first: numbers[c.first as usize],
+        second: numbers[c.second as usize],
+        third: numbers[c.third as usize],
+    }
 }
 
 // A and T, C and G are exchanged; every other byte stays.

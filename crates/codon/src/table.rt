@@ -1,6 +1,6 @@
 // The genetic code: the letter of a codon.
 use crate::Codon;
-use crate::bases::base_number;
+use crate::bases::base_numbers;
 ghost use mathlib.Core.Path.{_≡_};
 ghost use Rattle.codon.specs.Table.{standardTable, codonToIndex, translateCodon, isTga, translateReferenceCodon};
 
@@ -21,19 +21,17 @@ EDEDAAAAGGGGVVVV\
 pub(crate) fn codon_to_index(c: Codon) -> CodonIndex
     ensures { λ r. ⌜ r ≡ codonToIndex c ⌝ }
 {
-    let x = base_number(c.first);
-    if x > 3 {
+    let n = base_numbers(c);
+    if n.first > 3 {
         return CodonIndex::NoCodon;
     }
-    let y = base_number(c.second);
-    if y > 3 {
+    if n.second > 3 {
         return CodonIndex::NoCodon;
     }
-    let z = base_number(c.third);
-    if z > 3 {
+    if n.third > 3 {
         return CodonIndex::NoCodon;
     }
-    CodonIndex::Numbered(x * 16 + y * 4 + z)
+    CodonIndex::Numbered(n.first * 16 + n.second * 4 + n.third)
 }
 
 // The letter of a codon, X where a byte is not A, C, G or T.

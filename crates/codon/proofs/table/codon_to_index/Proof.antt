@@ -1,4 +1,4 @@
--- A byte that is no base leaves no place; the place of three base numbers is below 64.
+-- `codon::table::codon_to_index` meets its contract.
 -- Assumes nothing.
 use mathlib.Core.Path.{sym}
 use native.Mathlib.Omega.{arith}
@@ -7,60 +7,48 @@ use Rattle.codon.proofs.Index.{found-place, not-found}
 use Rattle.codon.proofs.table.codon_to_index.Statement.{statement}
 use Rattle.codon.proofs.table.codon_to_index.Tie as tie
 
-base-number-requires : tie.Need-base-number-requires
-base-number-requires c κs = search needs
+base-numbers-requires : tie.Need-base-numbers-requires
+base-numbers-requires c κs = search needs
 
 returns : tie.Need-returns
-returns c = sym (not-found (c .before .before .args .c) (λ n f. let x = f .first in let e = c .before .base-number .ensures in omega arith))
-
-base-number-requires-2 : tie.Need-base-number-requires-2
-base-number-requires-2 c κs = search needs
+returns c = sym (not-found (c .before .before .before .args .c) (λ n f. let w = f .first in let e = c .before .before .base-numbers .ensures in let x = e .0 in let y = e .1 in let z = e .2 in omega arith))
 
 returns-2 : tie.Need-returns-2
-returns-2 c =
-    sym (not-found (c .before .before .before .before .args .c) (λ n f. let y = f .second in let e = c .before .base-number2 .ensures in omega arith))
-
-base-number-requires-3 : tie.Need-base-number-requires-3
-base-number-requires-3 c κs = search needs
+returns-2 c = sym (not-found (c .before .before .before .before .before .args .c) (λ n f. let w = f .second in let e = c .before .before .before .before .base-numbers .ensures in let x = e .0 in let y = e .1 in let z = e .2 in omega arith))
 
 returns-3 : tie.Need-returns-3
-returns-3 c =
-    sym (not-found (c .before .before .before .before .before .before .args .c) (λ n f. let z = f .third in let e = c .before .base-number3 .ensures in omega arith))
+returns-3 c = sym (not-found (c .before .before .before .before .before .before .before .args .c) (λ n f. let w = f .third in let e = c .before .before .before .before .before .before .base-numbers .ensures in let x = e .0 in let y = e .1 in let z = e .2 in omega arith))
 
-mul-t6 : tie.Need-mul-t6
-mul-t6 c = search needs
+mul-t4 : tie.Need-mul-t4
+mul-t4 c = search needs
 
-mul-t7 : tie.Need-mul-t7
-mul-t7 c = search needs
+mul-t5 : tie.Need-mul-t5
+mul-t5 c = search needs
 
-add-t8 : tie.Need-add-t8
-add-t8 c = search needs
+add-t6 : tie.Need-add-t6
+add-t6 c = search needs
 
-add-t9 : tie.Need-add-t9
-add-t9 c = search needs
+add-t7 : tie.Need-add-t7
+add-t7 c = search needs
 
 returns-4 : tie.Need-returns-4
 returns-4 c =
-    let z = c .before in
-    let y = z .before .before in
-    let x = y .before .before in
-    let i = x .base-number .ensures in
-    let j = y .base-number2 .ensures in
-    let k = z .base-number3 .ensures in
+    let e = c .before .before .before .before .before .before .before .before .before .base-numbers .ensures in
+    let x = e .0 in
+    let y = e .1 in
+    let z = e .2 in
     sym (found-place (record { first = omega arith; second = omega arith; third = omega arith; place = omega arith }))
 
 pub codon-to-index-spec : {M : Type 1} → statement M
 codon-to-index-spec =
     tie.close
     (tie.spec
-    base-number-requires
+    base-numbers-requires
     returns
-    base-number-requires-2
     returns-2
-    base-number-requires-3
     returns-3
-    mul-t6
-    mul-t7
-    add-t8
-    add-t9
+    mul-t4
+    mul-t5
+    add-t6
+    add-t7
     returns-4)
