@@ -1,0 +1,37 @@
+-- What a question returns and leaves, case by case.
+-- Assumes nothing.
+use Prim.Native.Nat.{ℕ, zero, suc, _+_, _<_}
+use mathlib.Core.Path.{_≡_, refl, sym, _∙_, ap}
+use mathlib.Core.Bool.{Bool, true, false, cond}
+use mathlib.Core.List.{List, [], _∷_, append-nil}
+use native.Mathlib.Omega.{arith}
+use lib.ListN.{length, drop}
+use lib.Dec.{eqb}
+use lib.IntN.{ℤ}
+use lib.Seq.{sets, sets-eq, drop-length}
+use borrow.Author.Tests.{ne-eqb, eqb-false}
+use Rattle.common.proofs.TestParts.{true-false, on-test}
+use Rattle.interface.specs.Left.{Answered}
+
+module _ (fits : Bool) (refusal : ℕ) (words before : List ℤ) where
+  pub misfit : fits ≡ false → Answered fits refusal words before before 1
+  misfit h = record { number-is = rw h; words-are = rw h }
+
+  pub refused : fits ≡ true → (n : ℕ) → refusal ≡ n → 0 < n → Answered fits refusal words before before n
+  refused h n e l = record { number-is = rw (h, e); words-are = rw (h, e, ne-eqb n 0 (λ z. (omega arith))) }
+
+  pub answered : fits ≡ true → refusal ≡ 0 → (after : List ℤ) → after ≡ words → Answered fits refusal words before after 0
+  answered h e after w = record { number-is = rw (h, e); words-are = rw (h, e) w }
+
+-- words stored in a buffer of their length
+pub whole : (before words : List ℤ) → length words ≡ length before → sets before 0 words ≡ words
+whole before words e =
+    let z : 0 + length words ≡ length before = omega arith in
+    sets-eq words before 0 (omega arith) ∙ rw (z, drop-length before) (append-nil words)
+
+-- an answer that is a refusal has a number above 0: `is` tells refusals, and `number` is theirs
+pub some-number : {A : Type 0} (refuse : ℕ → A) (is : A → Bool) (number : A → ℕ) → ((n : ℕ) → is (refuse n) ≡ true) → ((n : ℕ) → number (refuse n) ≡ n)
+    → (x : A) → is x ≡ false → (w n : ℕ) → cond (eqb w 0) x (refuse w) ≡ refuse n → 0 < n
+some-number refuse is number told numbered x not w n e = on-test (eqb w 0)
+    (λ h. absurd (true-false (sym (told n) ∙ ap is (sym (rw h at e)) ∙ not)))
+    (λ h. let z = eqb-false w 0 h in let k = sym (numbered w) ∙ ap number (rw h at e) ∙ numbered n in omega arith)

@@ -1,0 +1,6 @@
+pub mod Putting
+pub mod Nearness
+pub mod Blocks
+pub mod Leaving
+pub mod PlaceWords
+pub mod Positions

@@ -1,0 +1,8 @@
+// The questions for callers in C and Rust. A transcript comes as numbers and lent lists, and an answer is left as numbers in a lent
+// buffer.
+mod admission;
+mod model;
+mod place;
+mod places;
+mod row;
+mod words;

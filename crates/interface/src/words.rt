@@ -1,0 +1,25 @@
+// Signed numbers put into a lent buffer.
+ghost use Prim.Native.Nat.{_+_, _≤_};
+ghost use mathlib.Core.Path.{_≡_};
+ghost use mathlib.Core.List.{[], _∷_};
+ghost use lib.ListN.{length};
+ghost use lib.IntN.{pos};
+ghost use lib.Seq.{sets};
+
+// A count as a signed number.
+pub(crate) fn signed(n: u32) -> i64
+    ensures { λ r. ⌜ r ≡ pos n ⌝ }
+{
+    n as i64
+}
+
+// Four numbers from a position on.
+pub(crate) fn put4(out: &mut [i64], at: usize, a: i64, b: i64, c: i64, d: i64)
+    requires { ⌜ at + 4 ≤ length (now out) ⌝ }
+    ensures { λ _. ⌜ now (out .exit) ≡ sets (now (out .entry)) at (a ∷ b ∷ c ∷ d ∷ []) ⌝ }
+{
+    out[at] = a;
+    out[at + 1] = b;
+    out[at + 2] = c;
+    out[at + 3] = d;
+}
