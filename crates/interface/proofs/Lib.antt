@@ -4,3 +4,5 @@ pub mod Blocks
 pub mod Leaving
 pub mod PlaceWords
 pub mod Positions
+pub mod Answers
+pub mod CallList

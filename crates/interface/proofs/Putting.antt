@@ -33,3 +33,7 @@ put-on {m} {n} l i xs ys p q = q ∙ rw p (sym (sets-append l i xs ys))
 -- a count that a local holds as a signed number
 pub word : {z : ℤ} {n : ℕ} → mag z < 2 ^ 63 → z ≡ pos n → toZ w64 (ofZ w64 z) ≡ pos n
 word {z} {n} h e = back z h ∙ e
+
+-- the same where it is known how many numbers come first
+pub put-behind : {m n : List ℤ} (l : List ℤ) (i k : ℕ) (xs ys : List ℤ) → length xs ≡ k → m ≡ sets l i xs → n ≡ sets m (i + k) ys → n ≡ sets l i (xs ++ ys)
+put-behind {m} {n} l i k xs ys e p q = put-on l i xs ys p (rw e q)

@@ -6,6 +6,7 @@ use Rattle.footprint.specs.Ranges.{sourceRanges}
 use Rattle.locate.specs.declared.VariantLocation.{VariantLocation}
 use Rattle.locate.specs.declared.VariantLocation.the-variants.{Upstream, Downstream, Distal, FivePrimeUtr, CdsExon, ThreePrimeUtr, SpliceDonor, SpliceAcceptor, SpliceRegion, Intron, FrameshiftIntron, NonCodingExon, NonCodingIntron}
 use Rattle.locate.specs.declared.Located.{Located}
+use Rattle.consequence.specs.declared.Called.{Called}
 use Rattle.interface.specs.declared.row.Row.{Row}
 
 abbrev pub rowWords : Row → List ℤ
@@ -30,3 +31,7 @@ Near (NonCodingIntron i d) = Unit
 abbrev pub NearAt : Located → Type 0
 NearAt (Located.At place) = Near place
 NearAt (Located.Refused n) = Unit
+
+abbrev pub NearCalled : Called → Type 0
+NearCalled (Called.Answered a) = Near (a .location)
+NearCalled (Called.Refused n) = Unit

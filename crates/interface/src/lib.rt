@@ -1,6 +1,9 @@
 // The questions for callers in C and Rust. A transcript comes as numbers and lent lists, and an answer is left as numbers in a lent
 // buffer.
 mod admission;
+mod call;
+mod calls;
+mod columns;
 mod model;
 mod place;
 mod places;

@@ -2,6 +2,7 @@
 use crate::model::model_of;
 use crate::row::Row;
 use crate::row::row_of;
+use crate::words::put_counts;
 use crate::words::put4;
 use crate::words::signed;
 use locate::Located;
@@ -21,14 +22,11 @@ ghost use Rattle.interface.specs.Row.{rowWords, NearAt};
 ghost use Rattle.interface.specs.Left.{PlaceAnswered};
 
 // A place behind the number 0.
-fn put_row(out: &mut [i64], at: usize, row: Row)
+pub(crate) fn put_row(out: &mut [i64], at: usize, row: Row)
     requires { ⌜ at + 8 ≤ length (now out) ⌝ }
     ensures { λ _. ⌜ now (out .exit) ≡ sets (now (out .entry)) at (pos 0 ∷ rowWords row) ⌝ }
 {
-    let kind = signed(row.kind);
-    let mark = signed(row.mark);
-    let index = signed(row.index);
-    put4(out, at, 0, kind, mark, index);
+    put_counts(out, at, 0, row.kind, row.mark, row.index);
     let segment = signed(row.segment);
     let position = signed(row.position);
     let distance = row.distance;
@@ -41,8 +39,8 @@ fn put_refusal(out: &mut [i64], at: usize, n: u8)
     requires { ⌜ at + 8 ≤ length (now out) ⌝ }
     ensures { λ _. ⌜ now (out .exit) ≡ sets (now (out .entry)) at (locatedWords (Located.Refused n)) ⌝ }
 {
-    put4(out, at, signed(n as u32), 0, 0, 0);
-    put4(out, at + 4, 0, 0, 0, 0);
+    put_counts(out, at, n as u32, 0, 0, 0);
+    put_counts(out, at + 4, 0, 0, 0, 0);
 }
 
 // An answer as 8 numbers.

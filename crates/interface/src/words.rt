@@ -23,3 +23,11 @@ pub(crate) fn put4(out: &mut [i64], at: usize, a: i64, b: i64, c: i64, d: i64)
     out[at + 2] = c;
     out[at + 3] = d;
 }
+
+// Four counts from a position on.
+pub(crate) fn put_counts(out: &mut [i64], at: usize, a: u32, b: u32, c: u32, d: u32)
+    requires { ⌜ at + 4 ≤ length (now out) ⌝ }
+    ensures { λ _. ⌜ now (out .exit) ≡ sets (now (out .entry)) at (pos a ∷ pos b ∷ pos c ∷ pos d ∷ []) ⌝ }
+{
+    put4(out, at, signed(a), signed(b), signed(c), signed(d));
+}

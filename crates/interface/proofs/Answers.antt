@@ -1,0 +1,73 @@
+-- The numbers of a call's answer: how many there are, the number of a refusal, and a place that is near.
+-- Assumes nothing.
+use Prim.Native.Nat.{ℕ, suc, _+_, _<_}
+use mathlib.Core.Path.{_≡_, refl, sym, _∙_, ap}
+use mathlib.Core.Bool.{Bool, true, false, cond}
+use mathlib.Core.List.{List, _∷_, _++_}
+use native.Mathlib.Omega.{arith}
+use lib.ListN.{length, length-append}
+use lib.Dec.{eqb}
+use Rattle.transcript.specs.Transcript.{Transcript}
+use Rattle.transcript.specs.Orient.{Oriented, orientBase, oriented}
+use Rattle.footprint.specs.Ranges.{sourceRanges}
+use Rattle.locate.specs.declared.VariantLocation.{VariantLocation}
+use Rattle.locate.specs.declared.VariantLocation.the-variants.{Upstream, Downstream, Distal, FivePrimeUtr, CdsExon, ThreePrimeUtr, SpliceDonor, SpliceAcceptor, SpliceRegion, Intron, FrameshiftIntron, NonCodingExon, NonCodingIntron}
+use Rattle.consequence.specs.declared.Call.{Call}
+use Rattle.consequence.specs.declared.Called.{Called}
+use Rattle.consequence.specs.declared.ConsequenceResult.{ConsequenceResult}
+use Rattle.consequence.specs.declared.FetchedCodon.{FetchedCodon}
+use Rattle.consequence.specs.Window.{Window, codingByte}
+use Rattle.consequence.specs.Numbers.{calledNumber}
+use Rattle.consequence.specs.Answer.{placeResult}
+use Rattle.consequence.specs.Call.{callPlace, callCodon, callRefusal, callResult, annotateSnv}
+use Rattle.interface.specs.Words.{placeWords}
+use Rattle.interface.specs.CallWords.{columnWords, calledWords}
+use Rattle.interface.specs.Row.{Near, NearCalled}
+use Rattle.interface.proofs.Nearness.{near-place}
+use Rattle.interface.proofs.PlaceWords.{place-length}
+use Rattle.interface.proofs.Leaving.{some-number}
+
+pub called-length : (x : Called) → length (calledWords x) ≡ 20
+called-length (Called.Answered a) =
+    let p = place-length (a .location) in
+    ap suc (length-append (placeWords (a .location)) (columnWords a) ∙ rw p)
+called-length (Called.Refused n) = refl
+
+-- the place of an answer is the one it was made at
+near-result : (t : Oriented) (p alt : ℕ) (codon : ℕ → FetchedCodon) (place : VariantLocation) → Near place → Near (placeResult t p alt codon place .location)
+unfolding placeResult
+near-result t p alt codon (Upstream d) h = h
+near-result t p alt codon (Downstream d) h = h
+near-result t p alt codon Distal h = h
+near-result t p alt codon (FivePrimeUtr i d m) h = h
+near-result t p alt codon (CdsExon i g o n k m) h = h
+near-result t p alt codon (ThreePrimeUtr i d m) h = h
+near-result t p alt codon (SpliceDonor i d) h = h
+near-result t p alt codon (SpliceAcceptor i d) h = h
+near-result t p alt codon (SpliceRegion i s d) h = h
+near-result t p alt codon (Intron i d) h = h
+near-result t p alt codon (FrameshiftIntron i d) h = h
+near-result t p alt codon (NonCodingExon i m) h = h
+near-result t p alt codon (NonCodingIntron i d) h = h
+
+near-answer : (b : Bool) (a : ConsequenceResult) (n : ℕ) → Near (a .location) → NearCalled (cond b (Called.Answered a) (Called.Refused n))
+near-answer true a n h = h
+near-answer false a n h = tt
+
+abbrev isRefused : Called → Bool
+isRefused (Called.Answered a) = false
+isRefused (Called.Refused n) = true
+
+module _ (t : Transcript) (w : Window) (q : Call) where
+  pub near-called : NearCalled (annotateSnv sourceRanges t w q)
+  unfolding annotateSnv callResult
+  near-called =
+      let p = orientBase (t .model .strand) (q .position) in
+      near-answer (eqb (callRefusal sourceRanges t w q) 0) (callResult sourceRanges t w q) (callRefusal sourceRanges t w q)
+      (near-result (oriented t) p (codingByte (t .model .strand) (q .«alt_base»)) (callCodon t w) (callPlace sourceRanges t q) (near-place (oriented t) p))
+
+  -- a refused call has a number
+  pub called-some : (n : ℕ) → annotateSnv sourceRanges t w q ≡ Called.Refused n → 0 < n
+  unfolding annotateSnv
+  called-some n h =
+      some-number Called.Refused isRefused calledNumber (λ k. refl) (λ k. refl) (Called.Answered (callResult sourceRanges t w q)) refl (callRefusal sourceRanges t w q) n h

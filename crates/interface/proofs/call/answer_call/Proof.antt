@@ -1,0 +1,86 @@
+-- `interface::call::answer_call` meets its contract.
+-- Assumes nothing.
+use Prim.Native.Nat.{ℕ, _<_}
+use mathlib.Core.Path.{_≡_, sym, _∙_, ap}
+use mathlib.Core.Bool.{Bool}
+use native.Mathlib.Omega.{arith}
+use lib.ListN.{length}
+use lib.Dec.{eqb}
+use lib.Seq.{sets}
+use borrow.Author.Tests.{eq-eqb, ne-eqb}
+use denote.Ref.{now}
+use Rattle.transcript.specs.Transcript.{Transcript, lent}
+use Rattle.footprint.specs.Ranges.{sourceRanges}
+use Rattle.consequence.specs.declared.Called.{Called}
+use Rattle.consequence.specs.Window.{Window}
+use Rattle.consequence.specs.Numbers.{calledNumber}
+use Rattle.consequence.specs.Call.{annotateSnv}
+use Rattle.interface.specs.CallWords.{calledWords}
+use Rattle.interface.proofs.Leaving.{misfit, refused, answered, whole}
+use Rattle.interface.proofs.Answers.{called-length, near-called, called-some}
+use borrow.Author.Needs.{needs}
+use Rattle.interface.proofs.call.answer_call.Statement.{statement}
+use Rattle.interface.proofs.call.answer_call.Tie as tie
+
+abbrev transcript : tie.Start → Transcript
+transcript b = lent (b .args .model) (now (b .args .exon-starts)) (now (b .args .exon-ends)) (now (b .args .seg-phases)) (now (b .args .seg-exons)) (now (b .args .seg-starts)) (now (b .args .seg-ends)) (now (b .args .selenocysteine))
+
+abbrev window : tie.Start → Window
+window b = record { chromosome = b .args .window-chromosome; first = b .args .window-first; bytes = now (b .args .window) }
+
+abbrev answer : tie.Start → Called
+answer b = annotateSnv sourceRanges (transcript b) (window b) (b .args .call)
+
+abbrev fits : tie.Start → Bool
+fits b = eqb (length (now (b .args .out))) 20
+
+returns : tie.Need-returns
+returns c = let b = c .before .before .before .before .before .before .before .before .before in misfit (fits b) (calledNumber (answer b)) (calledWords (answer b)) (now (b .args .out)) (ne-eqb (length (now (b .args .out))) 20 (c .if1 .taken))
+
+annotate-snv-requires : tie.Need-annotate-snv-requires
+annotate-snv-requires c κs = search needs
+
+enum-known-called : tie.Need-enum-known-called
+enum-known-called c = search needs
+
+returns-2 : tie.Need-returns-2
+returns-2 c =
+    let b = c .before .before .before .before .before .before .before .before .before .before .before .before .before in
+    let n = c .before .called .given .0 .0 in
+    let e : answer b ≡ Called.Refused n = sym (c .before .before .before .annotate-snv .ensures) ∙ c .before .called .given .1 in
+    refused (fits b) (calledNumber (answer b)) (calledWords (answer b)) (now (b .args .out)) (eq-eqb (length (now (b .args .out))) 20 (c .before .before .before .before .if1 .left)) n (ap calledNumber e)
+    (called-some (transcript b) (window b) (b .args .call) n e)
+
+enum-told : tie.Need-enum-told
+enum-told c = search needs
+
+put-called-requires : tie.Need-put-called-requires
+put-called-requires c κs =
+    let b = c .before .before .before .before .before .before .before .before .before .before .before .before .before in
+    (omega (arith, c .before .before .before .before .if1 .left), rw (c .before .before .before .annotate-snv .ensures) (near-called (transcript b) (window b) (b .args .call)))
+
+same-length : tie.Need-same-length
+same-length c = search needs
+
+returns-3 : tie.Need-returns-3
+returns-3 c =
+    let b = c .before .before .before .before .before .before .before .before .before .before .before .before .before .before .before in
+    let l = c .before .before .before .before .before .before .if1 .left in
+    let e = c .before .before .before .before .before .annotate-snv .ensures in
+    let n : length (calledWords (answer b)) ≡ length (now (b .args .out)) = called-length (answer b) ∙ sym l in
+    answered (fits b) (calledNumber (answer b)) (calledWords (answer b)) (now (b .args .out)) (eq-eqb (length (now (b .args .out))) 20 l)
+    (ap calledNumber (sym e ∙ c .before .before .before .enum-told .given .1)) _
+    (c .before .put-called .ensures ∙ ap (λ (x : Called). sets (now (b .args .out)) 0 (calledWords x)) e ∙ whole (now (b .args .out)) (calledWords (answer b)) n)
+
+pub answer-call-spec : {M : Type 1} → statement M
+answer-call-spec =
+    tie.close
+    (tie.spec
+    returns
+    annotate-snv-requires
+    enum-known-called
+    returns-2
+    enum-told
+    put-called-requires
+    same-length
+    returns-3)

@@ -1,0 +1,21 @@
+-- `interface::call::vareffect_call` meets its contract.
+-- Assumes nothing.
+use borrow.Author.Needs.{needs}
+use Rattle.interface.proofs.call.vareffect_call.Statement.{statement}
+use Rattle.interface.proofs.call.vareffect_call.Tie as tie
+
+model-of-requires : tie.Need-model-of-requires
+model-of-requires c κs = search needs
+
+answer-call-requires : tie.Need-answer-call-requires
+answer-call-requires c κs = search needs
+
+same-length : tie.Need-same-length
+same-length c = search needs
+
+returns : tie.Need-returns
+returns c = rw (c .before .before .before .model-of .ensures) at (c .before .answer-call .ensures)
+
+pub vareffect-call-spec : {M : Type 1} → statement M
+vareffect-call-spec =
+    tie.close (tie.spec model-of-requires answer-call-requires same-length returns)

@@ -1,0 +1,50 @@
+-- Calls on one transcript through one window, alone and as a list.
+use Prim.Native.Nat.{ℕ, _*_}
+use mathlib.Core.Bool.{Bool, _&&_}
+use mathlib.Core.List.{List, [], _∷_, map}
+use lib.ListN.{length}
+use lib.Dec.{eqb}
+use lib.IntN.{ℤ}
+use Rattle.common.specs.Lists.{concat}
+use Rattle.transcript.specs.Transcript.{Transcript}
+use Rattle.transcript.specs.Admission.{admission}
+use Rattle.footprint.specs.Ranges.{sourceRanges}
+use Rattle.consequence.specs.declared.Call.{Call}
+use Rattle.consequence.specs.Window.{Window}
+use Rattle.consequence.specs.Numbers.{calledNumber}
+use Rattle.consequence.specs.Call.{annotateSnv}
+use Rattle.interface.specs.CallWords.{calledWords}
+use Rattle.interface.specs.Left.{Answered}
+
+abbrev pub callOf : ℕ → ℕ → ℕ → ℕ → Call
+callOf chromosome position ref alt = record { chromosome = chromosome; position = position; «ref_base» = ref; «alt_base» = alt }
+
+-- the answer to a call in 20 numbers
+abbrev pub callWords : Transcript → Window → Call → List ℤ
+callWords t w q = calledWords (annotateSnv sourceRanges t w q)
+
+abbrev pub CallAnswered : Transcript → Window → Call → List ℤ → List ℤ → ℕ → Type 0
+CallAnswered t w q before after number =
+    Answered (eqb (length before) 20) (calledNumber (annotateSnv sourceRanges t w q)) (callWords t w q) before after number
+
+-- calls lent as four lists; the shortest list decides
+unfoldable pub callsOf : List ℕ → List ℕ → List ℕ → List ℕ → List Call
+callsOf [] ps rs ls = []
+callsOf (c ∷ cs) [] rs ls = []
+callsOf (c ∷ cs) (p ∷ ps) [] ls = []
+callsOf (c ∷ cs) (p ∷ ps) (r ∷ rs) [] = []
+callsOf (c ∷ cs) (p ∷ ps) (r ∷ rs) (a ∷ ls) = callOf c p r a ∷ callsOf cs ps rs ls
+
+-- the four lists have one length, and the buffer 20 elements for each call
+abbrev pub callsFit : List ℕ → List ℕ → List ℕ → List ℕ → List ℤ → Bool
+callsFit cs ps rs ls buffer =
+    eqb (length cs) (length ps) && (eqb (length rs) (length ps) && (eqb (length ls) (length ps) && eqb (length buffer) (20 * length ps)))
+
+-- the answers to calls, 20 numbers each
+abbrev pub callsWords : Transcript → Window → List Call → List ℤ
+callsWords t w calls = concat (map (callWords t w) calls)
+
+-- only the transcript can be refused as a whole
+abbrev pub CallsAnswered : Transcript → Window → List ℕ → List ℕ → List ℕ → List ℕ → List ℤ → List ℤ → ℕ → Type 0
+CallsAnswered t w cs ps rs ls before after number =
+    Answered (callsFit cs ps rs ls before) (admission t) (callsWords t w (callsOf cs ps rs ls)) before after number

@@ -1,0 +1,236 @@
+// The answers to many calls on one transcript.
+use crate::call::put_called;
+use crate::model::model_of;
+use consequence::Call;
+use consequence::annotate_admitted;
+use locate::IndexScalars;
+use locate::index_of;
+use transcript::Admission;
+use transcript::TranscriptModel;
+use transcript::admit;
+use transcript::question::refusal_number;
+ghost use Prim.Native.Nat.{_*_};
+ghost use mathlib.Core.Path.{_≡_};
+ghost use mathlib.Core.Bool.{true};
+ghost use lib.ListN.{length};
+ghost use Rattle.transcript.specs.Transcript.{lent};
+ghost use Rattle.consequence.specs.Prepared.{Prepared};
+ghost use Rattle.interface.specs.Model.{modelOf};
+ghost use Rattle.interface.specs.Calls.{callsOf, callsFit, callsWords, CallsAnswered};
+
+// Whether the lists have one length and the buffer fits.
+fn calls_fit(chromosomes: &[u16], positions: &[u64], refs: &[u8], alts: &[u8], out: &[i64]) -> bool
+    ensures { λ r. ⌜ r ≡ callsFit (now (chromosomes .entry)) (now (positions .entry)) (now (refs .entry)) (now (alts .entry)) (now (out .entry)) ⌝ }
+{
+    let n = positions.len();
+    if chromosomes.len() != n {
+        return false;
+    }
+    if refs.len() != n {
+        return false;
+    }
+    if alts.len() != n {
+        return false;
+    }
+    if out.len() % 20 != 0 {
+        return false;
+    }
+    out.len() / 20 == n
+}
+
+// The answers one behind the other.
+fn put_calls(
+    window_chromosome: u16,
+    window_first: u64,
+    window: &[u8],
+    chromosomes: &[u16],
+    positions: &[u64],
+    refs: &[u8],
+    alts: &[u8],
+    model: TranscriptModel,
+    exon_starts: &[u64],
+    exon_ends: &[u64],
+    seg_phases: &[u8],
+    seg_exons: &[u16],
+    seg_starts: &[u64],
+    seg_ends: &[u64],
+    selenocysteine: &[u64],
+    scalars: IndexScalars,
+    cumulative_exons: &[u32; 513],
+    cumulative_cds: &[u32; 513],
+    selenocysteine_codons: &[u32; 64],
+    out: &mut [i64],
+)
+    requires { ⌜ Prepared (lent model (now «exon_starts») (now «exon_ends») (now «seg_phases») (now «seg_exons») (now «seg_starts») (now «seg_ends») (now selenocysteine)) scalars (now «cumulative_exons») (now «cumulative_cds») (now «selenocysteine_codons») ⌝ }
+    requires { ⌜ callsFit (now chromosomes) (now positions) (now refs) (now alts) (now out) ≡ true ⌝ }
+    ensures { λ _. ⌜ now (out .exit) ≡ callsWords (lent model (now («exon_starts» .entry)) (now («exon_ends» .entry)) (now («seg_phases» .entry)) (now («seg_exons» .entry)) (now («seg_starts» .entry)) (now («seg_ends» .entry)) (now (selenocysteine .entry))) (record { chromosome = «window_chromosome»; first = «window_first»; bytes = now (window .entry) }) (callsOf (now (chromosomes .entry)) (now (positions .entry)) (now (refs .entry)) (now (alts .entry))) ⌝ }
+{
+    let mut i = 0;
+    while i < positions.len() {
+        let call = Call {
+            chromosome: chromosomes[i],
+            position: positions[i],
+            ref_base: refs[i],
+            alt_base: alts[i],
+        };
+        let called = annotate_admitted(
+            window_chromosome,
+            window_first,
+            window,
+            call,
+            model,
+            exon_starts,
+            exon_ends,
+            seg_phases,
+            seg_exons,
+            seg_starts,
+            seg_ends,
+            selenocysteine,
+            scalars,
+            cumulative_exons,
+            cumulative_cds,
+            selenocysteine_codons,
+        );
+        put_called(out, 20 * i, called);
+        i += 1;
+    }
+}
+
+// The same of a transcript that may be refused, with lists and a buffer that may not fit.
+fn answer_calls(
+    window_chromosome: u16,
+    window_first: u64,
+    window: &[u8],
+    chromosomes: &[u16],
+    positions: &[u64],
+    refs: &[u8],
+    alts: &[u8],
+    model: TranscriptModel,
+    exon_starts: &[u64],
+    exon_ends: &[u64],
+    seg_phases: &[u8],
+    seg_exons: &[u16],
+    seg_starts: &[u64],
+    seg_ends: &[u64],
+    selenocysteine: &[u64],
+    out: &mut [i64],
+) -> u8
+    ensures { λ r. ⌜ CallsAnswered (lent model (now («exon_starts» .entry)) (now («exon_ends» .entry)) (now («seg_phases» .entry)) (now («seg_exons» .entry)) (now («seg_starts» .entry)) (now («seg_ends» .entry)) (now (selenocysteine .entry))) (record { chromosome = «window_chromosome»; first = «window_first»; bytes = now (window .entry) }) (now (chromosomes .entry)) (now (positions .entry)) (now (refs .entry)) (now (alts .entry)) (now (out .entry)) (now (out .exit)) r ⌝ }
+{
+    if !calls_fit(chromosomes, positions, refs, alts, out) {
+        return 1;
+    }
+    let admitted = admit(
+        model,
+        exon_starts,
+        exon_ends,
+        seg_phases,
+        seg_exons,
+        seg_starts,
+        seg_ends,
+        selenocysteine,
+    );
+    let Admission::Admitted = admitted else {
+        return refusal_number(admitted);
+    };
+    let index = index_of(
+        model,
+        exon_starts,
+        exon_ends,
+        seg_phases,
+        seg_exons,
+        seg_starts,
+        seg_ends,
+        selenocysteine,
+    );
+    let scalars = index.scalars;
+    let cumulative_exons = index.cumulative_exons;
+    let cumulative_cds = index.cumulative_cds;
+    let selenocysteine_codons = index.selenocysteine_codons;
+    put_calls(
+        window_chromosome,
+        window_first,
+        window,
+        chromosomes,
+        positions,
+        refs,
+        alts,
+        model,
+        exon_starts,
+        exon_ends,
+        seg_phases,
+        seg_exons,
+        seg_starts,
+        seg_ends,
+        selenocysteine,
+        scalars,
+        &cumulative_exons,
+        &cumulative_cds,
+        &selenocysteine_codons,
+        out,
+    );
+    0
+}
+
+// For each call its answer as 20 numbers; 1 where the lists differ in length or `out` does not have 20 elements for each.
+#[no_mangle]
+pub extern "C" fn vareffect_calls(
+    window_chromosome: u16,
+    window_first: u64,
+    window: &[u8],
+    chromosomes: &[u16],
+    positions: &[u64],
+    refs: &[u8],
+    alts: &[u8],
+    id: u32,
+    tx_chromosome: u16,
+    minus: bool,
+    exon_count: u16,
+    tx_start: u64,
+    tx_end: u64,
+    has_cds: bool,
+    cds_start: u64,
+    cds_end: u64,
+    start_complete: bool,
+    exon_starts: &[u64],
+    exon_ends: &[u64],
+    seg_phases: &[u8],
+    seg_exons: &[u16],
+    seg_starts: &[u64],
+    seg_ends: &[u64],
+    selenocysteine: &[u64],
+    out: &mut [i64],
+) -> u8
+    ensures { λ r. ⌜ CallsAnswered (lent (modelOf id «tx_chromosome» minus «exon_count» «tx_start» «tx_end» «has_cds» «cds_start» «cds_end» «start_complete») (now («exon_starts» .entry)) (now («exon_ends» .entry)) (now («seg_phases» .entry)) (now («seg_exons» .entry)) (now («seg_starts» .entry)) (now («seg_ends» .entry)) (now (selenocysteine .entry))) (record { chromosome = «window_chromosome»; first = «window_first»; bytes = now (window .entry) }) (now (chromosomes .entry)) (now (positions .entry)) (now (refs .entry)) (now (alts .entry)) (now (out .entry)) (now (out .exit)) r ⌝ }
+{
+    let model = model_of(
+        id,
+        tx_chromosome,
+        minus,
+        exon_count,
+        tx_start,
+        tx_end,
+        has_cds,
+        cds_start,
+        cds_end,
+        start_complete,
+    );
+    answer_calls(
+        window_chromosome,
+        window_first,
+        window,
+        chromosomes,
+        positions,
+        refs,
+        alts,
+        model,
+        exon_starts,
+        exon_ends,
+        seg_phases,
+        seg_exons,
+        seg_starts,
+        seg_ends,
+        selenocysteine,
+        out,
+    )
+}
