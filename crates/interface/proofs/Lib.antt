@@ -6,3 +6,4 @@ pub mod PlaceWords
 pub mod Positions
 pub mod Answers
 pub mod CallList
+pub mod Beside

@@ -37,3 +37,10 @@ word {z} {n} h e = back z h ∙ e
 -- the same where it is known how many numbers come first
 pub put-behind : {m n : List ℤ} (l : List ℤ) (i k : ℕ) (xs ys : List ℤ) → length xs ≡ k → m ≡ sets l i xs → n ≡ sets m (i + k) ys → n ≡ sets l i (xs ++ ys)
 put-behind {m} {n} l i k xs ys e p q = put-on l i xs ys p (rw e q)
+
+-- stores at i, i + 1, i + 2
+pub three : (l : List ℤ) (i : ℕ) (a b c : ℤ) → set (set (set l i a) (i + 1) b) (i + 2) c ≡ sets l i (a ∷ b ∷ c ∷ [])
+three l i a b c =
+    let p : i + 1 ≡ suc i = omega arith in
+    let q : i + 2 ≡ suc (suc i) = omega arith in
+    rw (p, q)

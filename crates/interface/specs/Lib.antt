@@ -6,3 +6,4 @@ pub mod Left
 pub mod Lists
 pub mod Ready
 pub mod Calls
+pub mod Interval

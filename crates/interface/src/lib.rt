@@ -4,6 +4,7 @@ mod admission;
 mod call;
 mod calls;
 mod columns;
+mod interval;
 mod model;
 mod place;
 mod places;

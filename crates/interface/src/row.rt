@@ -19,7 +19,7 @@ pub(crate) struct Row {
     pub number: u32,
 }
 
-fn flag_of(b: bool) -> u32
+pub(crate) fn flag_of(b: bool) -> u32
     ensures { λ r. ⌜ r ≡ flag b ⌝ }
 {
     if b { 1 } else { 0 }

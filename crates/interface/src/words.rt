@@ -31,3 +31,16 @@ pub(crate) fn put_counts(out: &mut [i64], at: usize, a: u32, b: u32, c: u32, d: 
 {
     put4(out, at, signed(a), signed(b), signed(c), signed(d));
 }
+
+// Three counts from a position on.
+pub(crate) fn put_three(out: &mut [i64], at: usize, a: u32, b: u32, c: u32)
+    requires { ⌜ at + 3 ≤ length (now out) ⌝ }
+    ensures { λ _. ⌜ now (out .exit) ≡ sets (now (out .entry)) at (pos a ∷ pos b ∷ pos c ∷ []) ⌝ }
+{
+    let x = signed(a);
+    let y = signed(b);
+    let z = signed(c);
+    out[at] = x;
+    out[at + 1] = y;
+    out[at + 2] = z;
+}

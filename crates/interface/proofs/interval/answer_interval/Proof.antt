@@ -1,0 +1,112 @@
+-- `interface::interval::answer_interval` meets its contract.
+-- Assumes nothing.
+use Prim.Native.Nat.{ℕ}
+use mathlib.Core.Path.{_≡_, sym, _∙_, ap}
+use mathlib.Core.Bool.{Bool}
+use mathlib.Core.List.{List}
+use lib.ListN.{length}
+use lib.Dec.{eqb}
+use lib.IntN.{ℤ}
+use borrow.Author.Tests.{eq-eqb, ne-eqb}
+use denote.Ref.{now}
+use Rattle.transcript.specs.Transcript.{Transcript, lent}
+use Rattle.footprint.specs.declared.Flanked.{Flanked}
+use Rattle.footprint.specs.declared.Spilled.{Spilled}
+use Rattle.footprint.specs.Ranges.{sourceRanges}
+use Rattle.footprint.specs.Numbers.{flankedNumber}
+use Rattle.footprint.specs.Question.{flank, shortIntron, spill}
+use Rattle.interface.specs.Interval.{intervalWords}
+use Rattle.interface.proofs.Leaving.{misfit, refused, answered}
+use Rattle.interface.proofs.Beside.{near-flanked, flanked-some, alike}
+use borrow.Author.Needs.{needs}
+use Rattle.interface.proofs.interval.answer_interval.Statement.{statement}
+use Rattle.interface.proofs.interval.answer_interval.Tie as tie
+
+abbrev transcript : tie.Start → Transcript
+transcript b = lent (b .args .model) (now (b .args .exon-starts)) (now (b .args .exon-ends)) (now (b .args .seg-phases)) (now (b .args .seg-exons)) (now (b .args .seg-starts)) (now (b .args .seg-ends)) (now (b .args .selenocysteine))
+
+abbrev flanked : tie.Start → Flanked
+flanked b = flank sourceRanges (transcript b) (b .args .chromosome) (b .args .start) (b .args .end)
+
+abbrev spilled : tie.Start → Spilled
+spilled b = spill (transcript b) (b .args .chromosome) (b .args .start) (b .args .end)
+
+abbrev words : tie.Start → List ℤ
+words b = intervalWords (flanked b) (shortIntron (transcript b) (b .args .chromosome) (b .args .start) (b .args .end)) (spilled b)
+
+abbrev fits : tie.Start → Bool
+fits b = eqb (length (now (b .args .out))) 7
+
+returns : tie.Need-returns
+returns c = let b = c .before .before .before .before .before .before .before .before in misfit (fits b) (flankedNumber (flanked b)) (words b) (now (b .args .out)) (ne-eqb (length (now (b .args .out))) 7 (c .if1 .taken))
+
+classify-flank-requires : tie.Need-classify-flank-requires
+classify-flank-requires c κs = search needs
+
+frameshift-intron-endpoint-requires : tie.Need-frameshift-intron-endpoint-requires
+frameshift-intron-endpoint-requires c κs = search needs
+
+exonic-splice-spill-requires : tie.Need-exonic-splice-spill-requires
+exonic-splice-spill-requires c κs = search needs
+
+enum-known-flanked : tie.Need-enum-known-flanked
+enum-known-flanked c = search needs
+
+enum-known-flanked-2 : tie.Need-enum-known-flanked-2
+enum-known-flanked-2 c = search needs
+
+enum-known-spilled : tie.Need-enum-known-spilled
+enum-known-spilled c = search needs
+
+enum-known-spilled-2 : tie.Need-enum-known-spilled-2
+enum-known-spilled-2 c = search needs
+
+put-interval-requires : tie.Need-put-interval-requires
+put-interval-requires c κs =
+    let b = c .before .before .before .before .before .before .before .before .before .before .before .before .before .before .before .before .before .before in
+    let e : flanked b ≡ Flanked.Beside (c .before .before .before .before .before .flanked2 .given .0 .0) = sym (c .before .before .before .before .before .before .before .before .before .classify-flank .ensures) ∙ c .before .before .before .before .before .flanked2 .given .1 in
+    (c .before .before .before .before .before .before .before .before .before .before .if1 .left, rw e at (near-flanked (transcript b) (b .args .chromosome) (b .args .start) (b .args .end)))
+
+returns-2 : tie.Need-returns-2
+returns-2 c =
+    let b = c .before .before .before .before .before .before .before .before .before .before .before .before .before .before in
+    let n = c .before .flanked .given .0 .0 in
+    let e : flanked b ≡ Flanked.Refused n = sym (c .before .before .before .before .before .classify-flank .ensures) ∙ c .before .flanked .given .1 in
+    refused (fits b) (flankedNumber (flanked b)) (words b) (now (b .args .out)) (eq-eqb (length (now (b .args .out))) 7 (c .before .before .before .before .before .before .if1 .left)) n (ap flankedNumber e)
+    (flanked-some (transcript b) (b .args .chromosome) (b .args .start) (b .args .end) n e)
+
+returns-3 : tie.Need-returns-3
+returns-3 c =
+    let b = c .before .before .before .before .before .before .before .before .before .before .before .before .before .before .before .before .before in
+    absurd (alike (transcript b) (b .args .chromosome) (b .args .start) (b .args .end)
+    (sym (c .before .before .before .before .before .before .before .before .classify-flank .ensures) ∙ c .before .before .before .before .flanked2 .given .1)
+    (sym (c .before .before .before .before .before .before .exonic-splice-spill .ensures) ∙ c .before .spilled .given .1))
+
+same-length : tie.Need-same-length
+same-length c = search needs
+
+returns-4 : tie.Need-returns-4
+returns-4 c =
+    let b = c .before .before .before .before .before .before .before .before .before .before .before .before .before .before .before .before .before .before .before .before in
+    let f : flanked b ≡ Flanked.Beside (c .before .before .before .before .before .before .before .flanked2 .given .0 .0) = sym (c .before .before .before .before .before .before .before .before .before .before .before .classify-flank .ensures) ∙ c .before .before .before .before .before .before .before .flanked2 .given .1 in
+    let s : spilled b ≡ Spilled.Spill (c .before .before .before .before .spilled2 .given .0 .0) = sym (c .before .before .before .before .before .before .before .before .before .exonic-splice-spill .ensures) ∙ c .before .before .before .before .spilled2 .given .1 in
+    answered (fits b) (flankedNumber (flanked b)) (words b) (now (b .args .out)) (eq-eqb (length (now (b .args .out))) 7 (c .before .before .before .before .before .before .before .before .before .before .before .before .if1 .left)) (ap flankedNumber f) _
+    (c .before .put-interval .ensures ∙ λ k. intervalWords (sym f k) (c .before .before .before .before .before .before .before .before .before .before .frameshift-intron-endpoint .ensures k) (sym s k))
+
+pub answer-interval-spec : {M : Type 1} → statement M
+answer-interval-spec =
+    tie.close
+    (tie.spec
+    returns
+    classify-flank-requires
+    frameshift-intron-endpoint-requires
+    exonic-splice-spill-requires
+    enum-known-flanked
+    enum-known-flanked-2
+    enum-known-spilled
+    enum-known-spilled-2
+    put-interval-requires
+    returns-2
+    returns-3
+    same-length
+    returns-4)
