@@ -7,3 +7,4 @@ pub mod Positions
 pub mod Answers
 pub mod CallList
 pub mod Beside
+pub mod Collecting

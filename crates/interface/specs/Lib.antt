@@ -7,3 +7,4 @@ pub mod Lists
 pub mod Ready
 pub mod Calls
 pub mod Interval
+pub mod Decks

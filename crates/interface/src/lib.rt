@@ -4,6 +4,7 @@ mod admission;
 mod call;
 mod calls;
 mod columns;
+mod decks;
 mod interval;
 mod model;
 mod place;
