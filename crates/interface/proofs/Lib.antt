@@ -8,3 +8,4 @@ pub mod Answers
 pub mod CallList
 pub mod Beside
 pub mod Collecting
+pub mod Lining

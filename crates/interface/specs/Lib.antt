@@ -8,3 +8,4 @@ pub mod Ready
 pub mod Calls
 pub mod Interval
 pub mod Decks
+pub mod Lines

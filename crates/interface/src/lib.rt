@@ -6,6 +6,7 @@ mod calls;
 mod columns;
 mod decks;
 mod interval;
+mod line;
 mod model;
 mod place;
 mod places;

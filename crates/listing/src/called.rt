@@ -56,7 +56,7 @@ pub(crate) fn call_at(
 }
 
 // The line of a call's answer, or 28 where it does not fit.
-pub(crate) fn write_called(out: &mut [u8], number: u64, id: u32, called: Called) -> Written
+pub fn write_called(out: &mut [u8], number: u64, id: u32, called: Called) -> Written
     ensures { λ r. ⌜ (r ≡ writeAnswer (now (out .entry)) (calledLine number id called)) × (now (out .exit) ≡ writtenTo (now (out .entry)) (calledLine number id called)) ⌝ }
 {
     match called {
