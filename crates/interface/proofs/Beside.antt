@@ -1,11 +1,10 @@
 -- The three questions about an interval: refused alike, a flank within its range.
 -- Assumes nothing.
 use Prim.Native.Nat.{ℕ, _+_, _-_, _≤_, _<_}
-use mathlib.Core.Path.{_≡_, refl, sym, _∙_, ap}
+use mathlib.Core.Path.{_≡_, refl, sym, ap}
 use mathlib.Core.Bool.{Bool, true, false, cond}
-use mathlib.Core.List.{List, [], _∷_}
+use mathlib.Core.List.{[]}
 use native.Mathlib.Omega.{arith}
-use lib.ListN.{length}
 use lib.Dec.{leb, ltb, eqb}
 use borrow.Author.Tests.{ltb-true}
 use Rattle.common.proofs.TestParts.{true-false, on-test}
@@ -14,12 +13,11 @@ use Rattle.transcript.specs.Orient.{Interval, interval, orient, oriented}
 use Rattle.transcript.specs.Bases.{firstStart, lastEnd}
 use Rattle.transcript.specs.Question.{intervalRefusal}
 use Rattle.footprint.specs.declared.Flank.{Flank}
-use Rattle.footprint.specs.declared.Flank.the-variants.{Overlaps, Upstream, Downstream, Far}
+use Rattle.footprint.specs.declared.Flank.the-variants.{Upstream, Downstream, Far}
 use Rattle.footprint.specs.declared.Flanked.{Flanked}
 use Rattle.footprint.specs.declared.Spilled.{Spilled}
 use Rattle.footprint.specs.Ranges.{sourceRanges}
-use Rattle.footprint.specs.Flank.{isInsertion, flankDistance, flankBy, flankOf, classifyFlank}
-use Rattle.footprint.specs.ShortIntron.{exonicSpliceSpill}
+use Rattle.footprint.specs.Flank.{isInsertion, flankDistance, flankOf, classifyFlank}
 use Rattle.footprint.specs.Numbers.{flankedNumber}
 use Rattle.footprint.specs.Question.{flank, spill}
 use Rattle.interface.specs.Interval.{NearFlank, NearFlanked}

@@ -1,12 +1,11 @@
 -- The ids of a deck's transcripts, collected row by row.
 -- Assumes nothing.
-use Prim.Native.Nat.{ℕ, _+_, _*_, _≤_, _<_}
+use Prim.Native.Nat.{ℕ, _+_, _≤_, _<_}
 use mathlib.Core.Path.{_≡_, refl, sym, _∙_, ap}
-use mathlib.Core.Bool.{cond}
 use mathlib.Core.List.{List, [], _∷_, _++_, map, append-assoc, append-nil}
 use native.Mathlib.Omega.{arith}
-use lib.ListN.{length, getD}
-use Rattle.common.specs.Stored.{stored, Pushed}
+use lib.ListN.{getD}
+use Rattle.common.specs.Stored.{Pushed}
 use Rattle.common.proofs.Stored.{pushed-none, pushed-on}
 use Rattle.deck.specs.declared.DeckAnswer.the-variants.{Accepted, Refused}
 use Rattle.deck.specs.declared.DeckTable.{DeckTable}
@@ -14,8 +13,8 @@ use Rattle.deck.specs.declared.Deck.{Deck}
 use Rattle.deck.specs.declared.rows.Rows.{Rows}
 use Rattle.deck.specs.Walk.{walkDeck}
 use Rattle.deck.specs.Order.{orderOf}
-use Rattle.deck.specs.Deck.{readDeck, deckTranscripts}
-use Rattle.deck.specs.Table.{rowsAt, rowsFrom, modelIn, transcriptIn, transcriptAt, tableOf, InOrder, deckOf}
+use Rattle.deck.specs.Deck.{readDeck}
+use Rattle.deck.specs.Table.{rowsAt, rowsFrom, modelIn, transcriptIn, transcriptAt, tableOf, deckOf}
 use Rattle.deck.proofs.RowOrder.{rowsOn, rows-here, rows-none, rows-past}
 use Rattle.deck.proofs.Accepted.{accepted-transcripts}
 use Rattle.interface.specs.Decks.{idOf, deckIds}

@@ -1,23 +1,23 @@
 -- A place beside a transcript is no further than the flank.
 -- Assumes nothing.
-use Prim.Native.Nat.{ℕ, _+_, _-_, _≤_}
-use mathlib.Core.Path.{_≡_, refl, sym, ap}
+use Prim.Native.Nat.{ℕ, _+_, _-_}
+use mathlib.Core.Path.{_≡_, refl}
 use mathlib.Core.Bool.{Bool, true, false, cond, not, _&&_, _||_}
 use lib.Dec.{leb, ltb, eqb}
 use lib.IntN.{ℤ, pos}
 use borrow.Author.Tests.{leb-true}
 use Rattle.transcript.specs.Transcript.{Transcript}
-use Rattle.transcript.specs.Orient.{Interval, Oriented, orientBase, oriented}
-use Rattle.transcript.specs.Bases.{basesIn, firstStart, lastEnd}
+use Rattle.transcript.specs.Orient.{Oriented, orientBase, oriented}
+use Rattle.transcript.specs.Bases.{firstStart, lastEnd}
 use Rattle.transcript.specs.Question.{placeRefusal}
 use Rattle.footprint.specs.Ranges.{sourceRanges, spliceCanonicalMax, frameshiftIntronMaxGap}
 use Rattle.locate.specs.declared.VariantLocation.{VariantLocation}
-use Rattle.locate.specs.declared.VariantLocation.the-variants.{Upstream, Downstream, Distal, FivePrimeUtr, CdsExon, ThreePrimeUtr, SpliceDonor, SpliceAcceptor, SpliceRegion, Intron, FrameshiftIntron, NonCodingExon, NonCodingIntron}
+use Rattle.locate.specs.declared.VariantLocation.the-variants.{Upstream, Downstream, Distal, SpliceRegion}
 use Rattle.locate.specs.declared.SpliceSide.the-variants.{Donor, Acceptor}
 use Rattle.locate.specs.declared.Located.{Located}
-use Rattle.locate.specs.Intronic.{minus, signedDistance, spliceRegion, deepIntron, classifyDistances}
+use Rattle.locate.specs.Intronic.{minus, signedDistance, deepIntron, classifyDistances}
 use Rattle.locate.specs.Find.{Found, inExon, inIntron, outside, findExonOrIntron}
-use Rattle.locate.specs.Place.{intervalIndex, cdsOffset, cdsExon, exonic, placeFound, locate}
+use Rattle.locate.specs.Place.{exonic, placeFound, locate}
 use Rattle.locate.specs.Query.{locateVariant}
 use Rattle.interface.specs.Row.{Near, NearAt}
 

@@ -1,5 +1,5 @@
 -- A place as the code hands it on.
-use Prim.Native.Nat.{ℕ, _≤_}
+use Prim.Native.Nat.{_≤_}
 use mathlib.Core.List.{List, [], _∷_}
 use lib.IntN.{ℤ, pos}
 use Rattle.footprint.specs.Ranges.{sourceRanges}

@@ -1,6 +1,5 @@
 // The answer to a call.
 use crate::columns::put_columns;
-use crate::model::model_of;
 use crate::place::put_row;
 use crate::row::row_of;
 use crate::words::put_counts;
@@ -15,10 +14,9 @@ ghost use lib.ListN.{length};
 ghost use lib.Seq.{sets};
 ghost use Rattle.transcript.specs.Transcript.{lent};
 ghost use Rattle.consequence.specs.declared.Called.{Called};
-ghost use Rattle.interface.specs.Model.{modelOf};
 ghost use Rattle.interface.specs.CallWords.{calledWords};
 ghost use Rattle.interface.specs.Row.{Near, NearCalled};
-ghost use Rattle.interface.specs.Calls.{callOf, CallAnswered};
+ghost use Rattle.interface.specs.Calls.{CallAnswered};
 
 fn put_result(out: &mut [i64], at: usize, a: ConsequenceResult)
     requires { ⌜ (at + 20 ≤ length (now out)) × Near (a .location) ⌝ }
@@ -53,7 +51,7 @@ pub(crate) fn put_called(out: &mut [i64], at: usize, called: Called)
 }
 
 // The answer as 20 numbers, or the number of the refusal; 1 where `out` does not have 20 elements.
-fn answer_call(
+pub(crate) fn answer_call(
     window_chromosome: u16,
     window_first: u64,
     window: &[u8],
@@ -92,69 +90,4 @@ fn answer_call(
     }
     put_called(out, 0, called);
     0
-}
-
-#[no_mangle]
-pub extern "C" fn vareffect_call(
-    window_chromosome: u16,
-    window_first: u64,
-    window: &[u8],
-    chromosome: u16,
-    position: u64,
-    ref_base: u8,
-    alt_base: u8,
-    id: u32,
-    tx_chromosome: u16,
-    minus: bool,
-    exon_count: u16,
-    tx_start: u64,
-    tx_end: u64,
-    has_cds: bool,
-    cds_start: u64,
-    cds_end: u64,
-    start_complete: bool,
-    exon_starts: &[u64],
-    exon_ends: &[u64],
-    seg_phases: &[u8],
-    seg_exons: &[u16],
-    seg_starts: &[u64],
-    seg_ends: &[u64],
-    selenocysteine: &[u64],
-    out: &mut [i64],
-) -> u8
-    ensures { λ r. ⌜ CallAnswered (lent (modelOf id «tx_chromosome» minus «exon_count» «tx_start» «tx_end» «has_cds» «cds_start» «cds_end» «start_complete») (now («exon_starts» .entry)) (now («exon_ends» .entry)) (now («seg_phases» .entry)) (now («seg_exons» .entry)) (now («seg_starts» .entry)) (now («seg_ends» .entry)) (now (selenocysteine .entry))) (record { chromosome = «window_chromosome»; first = «window_first»; bytes = now (window .entry) }) (callOf chromosome position «ref_base» «alt_base») (now (out .entry)) (now (out .exit)) r ⌝ }
-{
-    let model = model_of(
-        id,
-        tx_chromosome,
-        minus,
-        exon_count,
-        tx_start,
-        tx_end,
-        has_cds,
-        cds_start,
-        cds_end,
-        start_complete,
-    );
-    let call = Call {
-        chromosome,
-        position,
-        ref_base,
-        alt_base,
-    };
-    answer_call(
-        window_chromosome,
-        window_first,
-        window,
-        call,
-        model,
-        exon_starts,
-        exon_ends,
-        seg_phases,
-        seg_exons,
-        seg_starts,
-        seg_ends,
-        selenocysteine,
-        out,
-    )
 }

@@ -1,6 +1,6 @@
 // The answers to many calls on one transcript.
 use crate::call::put_called;
-use crate::model::model_of;
+use crate::lengths::calls_fit;
 use consequence::Call;
 use consequence::annotate_admitted;
 use locate::IndexScalars;
@@ -9,34 +9,11 @@ use transcript::Admission;
 use transcript::TranscriptModel;
 use transcript::admit;
 use transcript::question::refusal_number;
-ghost use Prim.Native.Nat.{_*_};
 ghost use mathlib.Core.Path.{_≡_};
-ghost use mathlib.Core.Bool.{true};
-ghost use lib.ListN.{length};
 ghost use Rattle.transcript.specs.Transcript.{lent};
+ghost use mathlib.Core.Bool.{true};
 ghost use Rattle.consequence.specs.Prepared.{Prepared};
-ghost use Rattle.interface.specs.Model.{modelOf};
 ghost use Rattle.interface.specs.Calls.{callsOf, callsFit, callsWords, CallsAnswered};
-
-// Whether the lists have one length and the buffer fits.
-fn calls_fit(chromosomes: &[u16], positions: &[u64], refs: &[u8], alts: &[u8], out: &[i64]) -> bool
-    ensures { λ r. ⌜ r ≡ callsFit (now (chromosomes .entry)) (now (positions .entry)) (now (refs .entry)) (now (alts .entry)) (now (out .entry)) ⌝ }
-{
-    let n = positions.len();
-    if chromosomes.len() != n {
-        return false;
-    }
-    if refs.len() != n {
-        return false;
-    }
-    if alts.len() != n {
-        return false;
-    }
-    if out.len() % 20 != 0 {
-        return false;
-    }
-    out.len() / 20 == n
-}
 
 // The answers one behind the other.
 fn put_calls(
@@ -97,7 +74,7 @@ fn put_calls(
 }
 
 // The same of a transcript that may be refused, with lists and a buffer that may not fit.
-fn answer_calls(
+pub(crate) fn answer_calls(
     window_chromosome: u16,
     window_first: u64,
     window: &[u8],
@@ -170,67 +147,4 @@ fn answer_calls(
         out,
     );
     0
-}
-
-// For each call its answer as 20 numbers; 1 where the lists differ in length or `out` does not have 20 elements for each.
-#[no_mangle]
-pub extern "C" fn vareffect_calls(
-    window_chromosome: u16,
-    window_first: u64,
-    window: &[u8],
-    chromosomes: &[u16],
-    positions: &[u64],
-    refs: &[u8],
-    alts: &[u8],
-    id: u32,
-    tx_chromosome: u16,
-    minus: bool,
-    exon_count: u16,
-    tx_start: u64,
-    tx_end: u64,
-    has_cds: bool,
-    cds_start: u64,
-    cds_end: u64,
-    start_complete: bool,
-    exon_starts: &[u64],
-    exon_ends: &[u64],
-    seg_phases: &[u8],
-    seg_exons: &[u16],
-    seg_starts: &[u64],
-    seg_ends: &[u64],
-    selenocysteine: &[u64],
-    out: &mut [i64],
-) -> u8
-    ensures { λ r. ⌜ CallsAnswered (lent (modelOf id «tx_chromosome» minus «exon_count» «tx_start» «tx_end» «has_cds» «cds_start» «cds_end» «start_complete») (now («exon_starts» .entry)) (now («exon_ends» .entry)) (now («seg_phases» .entry)) (now («seg_exons» .entry)) (now («seg_starts» .entry)) (now («seg_ends» .entry)) (now (selenocysteine .entry))) (record { chromosome = «window_chromosome»; first = «window_first»; bytes = now (window .entry) }) (now (chromosomes .entry)) (now (positions .entry)) (now (refs .entry)) (now (alts .entry)) (now (out .entry)) (now (out .exit)) r ⌝ }
-{
-    let model = model_of(
-        id,
-        tx_chromosome,
-        minus,
-        exon_count,
-        tx_start,
-        tx_end,
-        has_cds,
-        cds_start,
-        cds_end,
-        start_complete,
-    );
-    answer_calls(
-        window_chromosome,
-        window_first,
-        window,
-        chromosomes,
-        positions,
-        refs,
-        alts,
-        model,
-        exon_starts,
-        exon_ends,
-        seg_phases,
-        seg_exons,
-        seg_starts,
-        seg_ends,
-        selenocysteine,
-        out,
-    )
 }

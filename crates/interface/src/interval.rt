@@ -1,89 +1,15 @@
 // The flank, the short intron and the spill of an interval.
+use crate::flanks::put_interval;
 use crate::model::model_of;
-use crate::row::flag_of;
-use crate::words::put_counts;
-use crate::words::put_three;
-use footprint::Endpoint;
-use footprint::Flank;
 use footprint::Flanked;
 use footprint::Spilled;
-use footprint::SpliceSpill;
 use footprint::classify_flank;
 use footprint::exonic_splice_spill;
 use footprint::frameshift_intron_endpoint;
 use transcript::TranscriptModel;
-ghost use mathlib.Core.Path.{_≡_};
-ghost use lib.ListN.{length};
 ghost use Rattle.transcript.specs.Transcript.{lent};
-ghost use Rattle.footprint.specs.declared.Flanked.{Flanked};
-ghost use Rattle.footprint.specs.declared.Spilled.{Spilled};
 ghost use Rattle.interface.specs.Model.{modelOf};
-ghost use Rattle.interface.specs.Interval.{flankKind, flankLength, endpointFlag, endpointIndex, intervalWords, IntervalAnswered, NearFlank};
-
-fn flank_kind(flank: Flank) -> u32
-    ensures { λ r. ⌜ r ≡ flankKind flank ⌝ }
-{
-    match flank {
-        Flank::Overlaps => 0,
-        Flank::Upstream(d) => 1,
-        Flank::Downstream(d) => 2,
-        Flank::Far => 3,
-    }
-}
-
-fn flank_length(flank: Flank) -> u32
-    requires { ⌜ NearFlank flank ⌝ }
-    ensures { λ r. ⌜ r ≡ flankLength flank ⌝ }
-{
-    match flank {
-        Flank::Overlaps => 0,
-        Flank::Upstream(d) => d as u32,
-        Flank::Downstream(d) => d as u32,
-        Flank::Far => 0,
-    }
-}
-
-fn endpoint_flag(e: Endpoint) -> u32
-    ensures { λ r. ⌜ r ≡ endpointFlag e ⌝ }
-{
-    match e {
-        Endpoint::Intron(i) => 1,
-        Endpoint::Nowhere => 0,
-        Endpoint::Refused(n) => 0,
-    }
-}
-
-fn endpoint_index(e: Endpoint) -> u32
-    ensures { λ r. ⌜ r ≡ endpointIndex e ⌝ }
-{
-    match e {
-        Endpoint::Intron(i) => i as u32,
-        Endpoint::Nowhere => 0,
-        Endpoint::Refused(n) => 0,
-    }
-}
-
-// The answers as 7 numbers.
-fn put_interval(out: &mut [i64], flank: Flank, e: Endpoint, spill: SpliceSpill)
-    requires { ⌜ (length (now out) ≡ 7) × NearFlank flank ⌝ }
-    ensures { λ _. ⌜ now (out .exit) ≡ intervalWords (Flanked.Beside flank) e (Spilled.Spill spill) ⌝ }
-{
-    put_counts(
-        out,
-        0,
-        0,
-        flank_kind(flank),
-        flank_length(flank),
-        endpoint_flag(e),
-    );
-    put_three(
-        out,
-        4,
-        endpoint_index(e),
-        flag_of(spill.donor),
-        flag_of(spill.acceptor),
-    );
-}
+ghost use Rattle.interface.specs.Interval.{IntervalAnswered};
 
 // The answers about [start, end), or the number of the refusal; 1 where `out` does not have 7 elements.
 fn answer_interval(
@@ -156,6 +82,8 @@ fn answer_interval(
     }
 }
 
+// The flank, the short intron and the spill as 7 numbers: 0, kind and distance, whether an end lies in a short intron and its index,
+// donor and acceptor.
 #[no_mangle]
 pub extern "C" fn vareffect_interval(
     chromosome: u16,

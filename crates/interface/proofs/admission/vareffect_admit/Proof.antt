@@ -1,6 +1,5 @@
 -- `interface::admission::vareffect_admit` meets its contract.
 -- Assumes nothing.
-use mathlib.Core.Path.{_≡_, _∙_, ap}
 use borrow.Author.Needs.{needs}
 use Rattle.interface.proofs.admission.vareffect_admit.Statement.{statement}
 use Rattle.interface.proofs.admission.vareffect_admit.Tie as tie

@@ -1,6 +1,5 @@
 -- `interface::call::answer_call` meets its contract.
 -- Assumes nothing.
-use Prim.Native.Nat.{ℕ, _<_}
 use mathlib.Core.Path.{_≡_, sym, _∙_, ap}
 use mathlib.Core.Bool.{Bool}
 use native.Mathlib.Omega.{arith}

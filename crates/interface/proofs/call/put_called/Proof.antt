@@ -1,6 +1,6 @@
 -- `interface::call::put_called` meets its contract.
 -- Assumes nothing.
-use mathlib.Core.Path.{_≡_, sym, _∙_, ap}
+use mathlib.Core.Path.{sym, _∙_, ap}
 use lib.Seq.{sets}
 use denote.Ref.{now}
 use Rattle.consequence.specs.declared.Called.{Called}

@@ -1,7 +1,7 @@
 -- `interface::call::put_result` meets its contract.
 -- Assumes nothing.
 use Prim.Native.Nat.{suc}
-use mathlib.Core.Path.{_≡_, _∙_, ap}
+use mathlib.Core.Path.{_∙_, ap}
 use mathlib.Core.List.{List, _∷_}
 use lib.IntN.{ℤ, pos}
 use lib.Seq.{sets}

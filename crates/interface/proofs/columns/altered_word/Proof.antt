@@ -1,6 +1,6 @@
 -- `interface::columns::altered_word` meets its contract.
 -- Assumes nothing.
-use mathlib.Core.Path.{_≡_, _∙_}
+use mathlib.Core.Path.{_∙_}
 use borrow.Author.Needs.{needs}
 use Rattle.interface.proofs.columns.altered_word.Statement.{statement}
 use Rattle.interface.proofs.columns.altered_word.Tie as tie

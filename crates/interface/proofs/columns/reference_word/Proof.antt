@@ -1,6 +1,6 @@
 -- `interface::columns::reference_word` meets its contract.
 -- Assumes nothing.
-use mathlib.Core.Path.{_≡_, _∙_}
+use mathlib.Core.Path.{_∙_}
 use borrow.Author.Needs.{needs}
 use Rattle.interface.proofs.columns.reference_word.Statement.{statement}
 use Rattle.interface.proofs.columns.reference_word.Tie as tie

@@ -1,6 +1,6 @@
 -- `interface::decks::vareffect_check_deck` meets its contract.
 -- Assumes nothing.
-use mathlib.Core.Path.{_≡_, _∙_, ap}
+use mathlib.Core.Path.{_∙_, ap}
 use denote.Ref.{now}
 use Rattle.interface.specs.Decks.{deckFault}
 use Rattle.interface.proofs.Collecting.{answer-is}

@@ -1,13 +1,10 @@
 -- `interface::place::answer_place` meets its contract.
 -- Assumes nothing.
-use Prim.Native.Nat.{ℕ, _<_}
 use mathlib.Core.Path.{_≡_, sym, _∙_, ap}
 use mathlib.Core.Bool.{Bool}
-use mathlib.Core.List.{List, _∷_}
 use native.Mathlib.Omega.{arith}
 use lib.ListN.{length}
 use lib.Dec.{eqb}
-use lib.IntN.{ℤ, pos}
 use lib.Seq.{sets}
 use borrow.Author.Tests.{eq-eqb, ne-eqb}
 use denote.Ref.{now}

@@ -1,6 +1,6 @@
 -- `interface::place::put_row` meets its contract.
 -- Assumes nothing.
-use mathlib.Core.Path.{_≡_, _∙_}
+use mathlib.Core.Path.{_∙_}
 use mathlib.Core.List.{[], _∷_}
 use lib.IntN.{pos}
 use denote.Ref.{now}

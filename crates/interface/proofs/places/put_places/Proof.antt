@@ -1,12 +1,12 @@
 -- `interface::places::put_places` meets its contract.
 -- Assumes nothing.
 use Prim.Native.Nat.{ℕ, _+_, _*_, _-_, _≤_, _<_}
-use mathlib.Core.Path.{_≡_, sym, _∙_, ap}
+use mathlib.Core.Path.{_≡_, _∙_, ap}
 use mathlib.Core.List.{List}
 use native.Mathlib.Omega.{arith}
 use lib.ListN.{length, getD}
 use lib.IntN.{ℤ}
-use lib.Seq.{sets, length-sets}
+use lib.Seq.{sets}
 use denote.Ref.{now}
 use Rattle.transcript.specs.Transcript.{Transcript, lent}
 use Rattle.footprint.specs.Ranges.{sourceRanges}

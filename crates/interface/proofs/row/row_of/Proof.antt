@@ -1,6 +1,6 @@
 -- `interface::row::row_of` meets its contract.
 -- Assumes nothing.
-use mathlib.Core.Path.{_≡_, sym, _∙_, ap}
+use mathlib.Core.Path.{_∙_}
 use Rattle.locate.proofs.Signed.{back}
 use native.Mathlib.Omega.{arith}
 use borrow.Author.Needs.{needs}

@@ -1,6 +1,5 @@
 -- `interface::words::put4` meets its contract.
 -- Assumes nothing.
-use mathlib.Core.Path.{_≡_}
 use native.Mathlib.Omega.{arith}
 use lib.ListN.{length-set}
 use mir.Facts.{toZ-ofZ}

@@ -1,6 +1,6 @@
 -- `interface::words::put_counts` meets its contract.
 -- Assumes nothing.
-use mathlib.Core.Path.{_≡_, _∙_}
+use mathlib.Core.Path.{_∙_}
 use Rattle.interface.proofs.Putting.{word}
 use borrow.Author.Needs.{needs}
 use Rattle.interface.proofs.words.put_counts.Statement.{statement}

@@ -1,6 +1,6 @@
--- `interface::interval::put_interval` meets its contract.
+-- `interface::flanks::put_interval` meets its contract.
 -- Assumes nothing.
-use mathlib.Core.Path.{_≡_, sym, _∙_}
+use mathlib.Core.Path.{sym, _∙_}
 use mathlib.Core.List.{[], _∷_, _++_}
 use lib.IntN.{pos}
 use denote.Ref.{now}
@@ -9,8 +9,8 @@ use Rattle.interface.specs.Interval.{flankKind, flankLength, endpointFla
 use Rattle.interface.proofs.Putting.{put-on}
 use Rattle.interface.proofs.Leaving.{whole}
 use borrow.Author.Needs.{needs}
-use Rattle.interface.proofs.interval.put_interval.Statement.{statement}
-use Rattle.interface.proofs.interval.put_interval.Tie as tie
+use Rattle.interface.proofs.flanks.put_interval.Statement.{statement}
+use Rattle.interface.proofs.flanks.put_interval.Tie as tie
 
 flank-kind-requires : tie.Need-flank-kind-requires
 flank-kind-requires c κs = search needs

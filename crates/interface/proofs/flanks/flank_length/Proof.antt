@@ -1,9 +1,9 @@
--- `interface::interval::flank_length` meets its contract.
+-- `interface::flanks::flank_length` meets its contract.
 -- Assumes nothing.
 use native.Mathlib.Omega.{arith}
 use borrow.Author.Needs.{needs}
-use Rattle.interface.proofs.interval.flank_length.Statement.{statement}
-use Rattle.interface.proofs.interval.flank_length.Tie as tie
+use Rattle.interface.proofs.flanks.flank_length.Statement.{statement}
+use Rattle.interface.proofs.flanks.flank_length.Tie as tie
 
 enum-told : tie.Need-enum-told
 enum-told c = search needs

@@ -1,4 +1,4 @@
--- `interface::calls::calls_fit` meets its contract.
+-- `interface::lengths::calls_fit` meets its contract.
 -- Assumes nothing.
 use Prim.Native.Nat.{ℕ, _*_, _/_, _%_}
 use mathlib.Core.Path.{_≡_, sym, _∙_}
@@ -8,8 +8,8 @@ use lib.Dec.{eqb}
 use borrow.Author.Tests.{eq-eqb, ne-eqb, eqb-true, eqb-false}
 use denote.Ref.{now}
 use Rattle.common.proofs.TestParts.{on-test}
-use Rattle.interface.proofs.calls.calls_fit.Statement.{statement}
-use Rattle.interface.proofs.calls.calls_fit.Tie as tie
+use Rattle.interface.proofs.lengths.calls_fit.Statement.{statement}
+use Rattle.interface.proofs.lengths.calls_fit.Tie as tie
 
 -- a length that 20 divides
 times-20 : (k n : ℕ) → k % 20 ≡ 0 → eqb (k / 20) n ≡ eqb k (20 * n)

@@ -1,6 +1,6 @@
--- `interface::places::locate_position` meets its contract.
+-- `interface::position::locate_position` meets its contract.
 -- Assumes nothing.
-use mathlib.Core.Path.{_≡_, _∙_, ap}
+use mathlib.Core.Path.{_∙_, ap}
 use native.Mathlib.Omega.{arith}
 use denote.Ref.{now}
 use Rattle.transcript.specs.Transcript.{Transcript, lent}
@@ -11,8 +11,8 @@ use Rattle.locate.specs.declared.Located.{Located}
 use Rattle.locate.specs.Place.{locate}
 use Rattle.interface.proofs.Positions.{is-15, is-14, is-at}
 use borrow.Author.Needs.{needs}
-use Rattle.interface.proofs.places.locate_position.Statement.{statement}
-use Rattle.interface.proofs.places.locate_position.Tie as tie
+use Rattle.interface.proofs.position.locate_position.Statement.{statement}
+use Rattle.interface.proofs.position.locate_position.Tie as tie
 
 abbrev transcript : tie.Start → Transcript
 transcript b = lent (b .args .model) (now (b .args .exon-starts)) (now (b .args .exon-ends)) (now (b .args .seg-phases)) (now (b .args .seg-exons)) (now (b .args .seg-starts)) (now (b .args .seg-ends)) (now (b .args .selenocysteine))

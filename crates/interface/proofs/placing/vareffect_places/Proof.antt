@@ -1,8 +1,8 @@
--- `interface::places::vareffect_places` meets its contract.
+-- `interface::placing::vareffect_places` meets its contract.
 -- Assumes nothing.
 use borrow.Author.Needs.{needs}
-use Rattle.interface.proofs.places.vareffect_places.Statement.{statement}
-use Rattle.interface.proofs.places.vareffect_places.Tie as tie
+use Rattle.interface.proofs.placing.vareffect_places.Statement.{statement}
+use Rattle.interface.proofs.placing.vareffect_places.Tie as tie
 
 model-of-requires : tie.Need-model-of-requires
 model-of-requires c κs = search needs

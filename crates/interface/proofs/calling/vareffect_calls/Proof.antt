@@ -1,8 +1,8 @@
--- `interface::calls::vareffect_calls` meets its contract.
+-- `interface::calling::vareffect_calls` meets its contract.
 -- Assumes nothing.
 use borrow.Author.Needs.{needs}
-use Rattle.interface.proofs.calls.vareffect_calls.Statement.{statement}
-use Rattle.interface.proofs.calls.vareffect_calls.Tie as tie
+use Rattle.interface.proofs.calling.vareffect_calls.Statement.{statement}
+use Rattle.interface.proofs.calling.vareffect_calls.Tie as tie
 
 model-of-requires : tie.Need-model-of-requires
 model-of-requires c κs = search needs

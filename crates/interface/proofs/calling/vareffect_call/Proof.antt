@@ -1,8 +1,8 @@
--- `interface::call::vareffect_call` meets its contract.
+-- `interface::calling::vareffect_call` meets its contract.
 -- Assumes nothing.
 use borrow.Author.Needs.{needs}
-use Rattle.interface.proofs.call.vareffect_call.Statement.{statement}
-use Rattle.interface.proofs.call.vareffect_call.Tie as tie
+use Rattle.interface.proofs.calling.vareffect_call.Statement.{statement}
+use Rattle.interface.proofs.calling.vareffect_call.Tie as tie
 
 model-of-requires : tie.Need-model-of-requires
 model-of-requires c κs = search needs

@@ -1,8 +1,8 @@
--- `interface::place::vareffect_place` meets its contract.
+-- `interface::placing::vareffect_place` meets its contract.
 -- Assumes nothing.
 use borrow.Author.Needs.{needs}
-use Rattle.interface.proofs.place.vareffect_place.Statement.{statement}
-use Rattle.interface.proofs.place.vareffect_place.Tie as tie
+use Rattle.interface.proofs.placing.vareffect_place.Statement.{statement}
+use Rattle.interface.proofs.placing.vareffect_place.Tie as tie
 
 model-of-requires : tie.Need-model-of-requires
 model-of-requires c κs = search needs

@@ -1,0 +1,56 @@
+// The place of a lone position in an admitted transcript.
+use locate::IndexScalars;
+use locate::Located;
+use locate::place::place_of_base;
+use transcript::TranscriptModel;
+use transcript::question::base_of;
+ghost use mathlib.Core.Path.{_≡_};
+ghost use Rattle.transcript.specs.Transcript.{lent};
+ghost use Rattle.footprint.specs.Ranges.{sourceRanges};
+ghost use Rattle.locate.specs.Query.{locatePosition};
+ghost use Rattle.interface.specs.Ready.{Ready};
+
+// The largest start or end of a query.
+const QUERY_LIMIT: u64 = 1_000_010_000;
+
+// The place of [p, p + 1), or the number of the refusal.
+pub(crate) fn locate_position(
+    chromosome: u16,
+    p: u64,
+    model: TranscriptModel,
+    exon_starts: &[u64],
+    exon_ends: &[u64],
+    seg_phases: &[u8],
+    seg_exons: &[u16],
+    seg_starts: &[u64],
+    seg_ends: &[u64],
+    selenocysteine: &[u64],
+    scalars: IndexScalars,
+    cumulative_exons: &[u32; 513],
+) -> Located
+    requires { ⌜ Ready (lent model (now «exon_starts») (now «exon_ends») (now «seg_phases») (now «seg_exons») (now «seg_starts») (now «seg_ends») (now selenocysteine)) scalars (now «cumulative_exons») ⌝ }
+    ensures { λ r. ⌜ r ≡ locatePosition sourceRanges (lent model (now («exon_starts» .entry)) (now («exon_ends» .entry)) (now («seg_phases» .entry)) (now («seg_exons» .entry)) (now («seg_starts» .entry)) (now («seg_ends» .entry)) (now (selenocysteine .entry))) chromosome p ⌝ }
+{
+    if QUERY_LIMIT <= p {
+        return Located::Refused(15);
+    }
+    if chromosome != model.chromosome {
+        return Located::Refused(14);
+    }
+    let strand = model.strand;
+    let q = base_of(strand, p);
+    let place = place_of_base(
+        model,
+        exon_starts,
+        exon_ends,
+        seg_phases,
+        seg_exons,
+        seg_starts,
+        seg_ends,
+        selenocysteine,
+        scalars,
+        cumulative_exons,
+        q,
+    );
+    Located::At(place)
+}
