@@ -1,0 +1,282 @@
+//! Times of the Rust and of the proved library on the same questions.
+
+use super::lent::Lent;
+use crate::consequence::snv::annotate_snv_verified;
+use crate::driver::answer::Subject;
+use crate::driver::call::window;
+use crate::driver::record::Tx;
+use crate::driver::rng::Rng;
+use crate::driver::shape::{coding_bases, coordinate, exonic, plain, set_cds};
+use crate::fasta::FastaReader;
+use crate::locate::{LocateIndex, locate_variant};
+use std::hint::black_box;
+use std::time::Instant;
+use vareffect_proved::{Transcript, ask_raw};
+
+/// How many exons the transcripts have.
+const SIZES: [u32; 5] = [1, 10, 100, 363, 512];
+/// Questions in a list.
+const MANY: usize = 4096;
+
+/// The best time of several runs, in nanoseconds, for one of `count`.
+fn best(count: usize, mut work: impl FnMut()) -> f64 {
+    let mut least = f64::INFINITY;
+    let begin = Instant::now();
+    let mut runs = 0;
+    while runs < 20 || begin.elapsed().as_millis() < 400 {
+        let from = Instant::now();
+        work();
+        least = least.min(from.elapsed().as_secs_f64());
+        runs += 1;
+    }
+    least * 1e9 / count as f64
+}
+
+/// The Rust first, then the library: times and ratio.
+fn line(what: &str, exons: u32, theirs: f64, ours: f64) {
+    println!("{what:<34} {exons:>5} {theirs:>10.1} {ours:>10.1} {:>7.2}", theirs / ours);
+}
+
+/// A transcript like a gene's: exons of 60 to 300 bases, introns of 80 to 3000.
+fn gene(rng: &mut Rng, count: u32, minus: bool) -> Tx {
+    let lens: Vec<u32> = (0..count).map(|_| rng.between(60, 300)).collect();
+    let gaps: Vec<u32> = (1..count).map(|_| rng.between(80, 3000)).collect();
+    let mut tx = plain(1, 7, minus, 1_000_000, &lens, &gaps);
+    let total = exonic(&tx);
+    set_cds(&mut tx, total / 10, total - 1 - total / 10, 0, true);
+    tx
+}
+
+struct Case {
+    subject: Subject,
+    lent: Lent,
+    fasta: FastaReader,
+    places: Vec<u64>,
+    calls: Vec<(u64, u8, u8)>,
+}
+
+fn case(rng: &mut Rng, count: u32) -> Case {
+    let tx = gene(rng, count, count % 2 == 0);
+    let (low, end) = (tx.tx_start(), tx.tx_end());
+    // Half of the positions anywhere on the transcript, half in exons.
+    let total = exonic(&tx);
+    let places = (0..MANY).map(|i| match i % 2 {
+        0 => u64::from(rng.between(low - 100, end + 99)),
+        _ => u64::from(coordinate(&tx, rng.below(total))),
+    });
+    let places = places.collect();
+    let bytes: Vec<u8> = (low..end).map(|_| rng.pick(b"ACGT")).collect();
+    let coding = coding_bases(&tx);
+    let calls = (0..MANY).map(|_| {
+        let at = rng.pick(&coding);
+        let reference = bytes[(at - low) as usize];
+        let alt = loop {
+            let alt = rng.pick(b"ACGT");
+            if alt != reference {
+                break alt;
+            }
+        };
+        (u64::from(at), reference, alt)
+    });
+    let calls = calls.collect();
+    let fasta = window(&tx, low, bytes);
+    let lent = Lent::new(&tx);
+    Case {
+        subject: Subject::new(tx),
+        lent,
+        fasta,
+        places,
+        calls,
+    }
+}
+
+fn proved_places(t: &Transcript, places: &[u64], out: &mut [i64]) -> u8 {
+    unsafe {
+        ask_raw!(vareffect_places(
+            t.chromosome, places.as_ptr(), places.len(); t; out.as_mut_ptr(), out.len()))
+    }
+}
+
+fn proved_place(t: &Transcript, at: u64, out: &mut [i64]) -> u8 {
+    unsafe {
+        ask_raw!(vareffect_place(
+            t.chromosome, at, at + 1; t; out.as_mut_ptr(), out.len()))
+    }
+}
+
+struct Lists {
+    chromosomes: Vec<u16>,
+    positions: Vec<u64>,
+    refs: Vec<u8>,
+    alts: Vec<u8>,
+}
+
+fn lists(c: &Case) -> Lists {
+    Lists {
+        chromosomes: vec![c.subject.tx.chrom; c.calls.len()],
+        positions: c.calls.iter().map(|c| c.0).collect(),
+        refs: c.calls.iter().map(|c| c.1).collect(),
+        alts: c.calls.iter().map(|c| c.2).collect(),
+    }
+}
+
+fn proved_calls(t: &Transcript, w: &FastaReader, l: &Lists, out: &mut [i64]) -> u8 {
+    unsafe {
+        ask_raw!(vareffect_calls(
+            t.chromosome, w.first, w.bytes.as_ptr(), w.bytes.len(),
+            l.chromosomes.as_ptr(), l.chromosomes.len(), l.positions.as_ptr(), l.positions.len(),
+            l.refs.as_ptr(), l.refs.len(), l.alts.as_ptr(), l.alts.len();
+            t; out.as_mut_ptr(), out.len()))
+    }
+}
+
+fn proved_call(t: &Transcript, w: &FastaReader, c: (u64, u8, u8), out: &mut [i64]) -> u8 {
+    unsafe {
+        ask_raw!(vareffect_call(
+            t.chromosome, w.first, w.bytes.as_ptr(), w.bytes.len(),
+            t.chromosome, c.0, c.1, c.2; t; out.as_mut_ptr(), out.len()))
+    }
+}
+
+fn build(s: &Subject) -> LocateIndex {
+    LocateIndex::build(black_box(&s.model)).expect("an index")
+}
+
+/// Rust: the index; ours: admission alone, then admission and index.
+fn time_build(count: u32, c: &Case) {
+    let theirs = best(16, || {
+        for _ in 0..16 {
+            black_box(build(&c.subject));
+        }
+    });
+    let t = c.lent.transcript();
+    let admit = best(16, || {
+        for _ in 0..16 {
+            assert_eq!(unsafe { ask_raw!(vareffect_admit(; black_box(&t);)) }, 0);
+        }
+    });
+    line("index build / admit", count, theirs, admit);
+    let index = best(16, || {
+        for _ in 0..16 {
+            assert_eq!(proved_places(black_box(&t), &[], &mut []), 0);
+        }
+    });
+    line("index build / admit + index", count, theirs, index);
+}
+
+fn time_places(count: u32, c: &Case, order: &str, places: &[u64]) {
+    let (model, index) = (&c.subject.model, &c.subject.index);
+    let theirs = best(MANY, || {
+        for &at in places {
+            let place = locate_variant(&model.chrom, black_box(at), at + 1, model, index);
+            let _ = black_box(place.expect("a place"));
+        }
+    });
+    let t = c.lent.transcript();
+    let mut out = vec![0; 8 * MANY];
+    let ours = best(MANY, || {
+        assert_eq!(proved_places(&t, black_box(places), &mut out), 0);
+        black_box(&out);
+    });
+    line(&format!("place, list, {order}"), count, theirs, ours);
+    let few = &places[..256];
+    let theirs = best(few.len(), || {
+        for &at in few {
+            let index = build(&c.subject);
+            let place = locate_variant(&model.chrom, black_box(at), at + 1, model, &index);
+            let _ = black_box(place.expect("a place"));
+        }
+    });
+    let ours = best(few.len(), || {
+        for &at in few {
+            assert_eq!(proved_place(&t, black_box(at), &mut out[..8]), 0);
+        }
+    });
+    line(&format!("place, single with build, {order}"), count, theirs, ours);
+}
+
+fn time_calls(count: u32, c: &Case) {
+    let (model, index) = (&c.subject.model, &c.subject.index);
+    let theirs = best(MANY, || {
+        for &(at, reference, alt) in &c.calls {
+            let result = annotate_snv_verified(
+                &model.chrom,
+                black_box(at),
+                reference,
+                alt,
+                model,
+                index,
+                &c.fasta,
+            );
+            let _ = black_box(result.expect("an answer"));
+        }
+    });
+    let t = c.lent.transcript();
+    let lists = lists(c);
+    let mut out = vec![0; 20 * MANY];
+    let ours = best(MANY, || {
+        assert_eq!(proved_calls(&t, &c.fasta, black_box(&lists), &mut out), 0);
+        black_box(&out);
+    });
+    line("exonic call, list", count, theirs, ours);
+    let few = &c.calls[..256];
+    let theirs = best(few.len(), || {
+        for &(at, reference, alt) in few {
+            let index = build(&c.subject);
+            let result = annotate_snv_verified(
+                &model.chrom,
+                black_box(at),
+                reference,
+                alt,
+                model,
+                &index,
+                &c.fasta,
+            );
+            let _ = black_box(result.expect("an answer"));
+        }
+    });
+    let ours = best(few.len(), || {
+        for &call in few {
+            assert_eq!(proved_call(&t, &c.fasta, black_box(call), &mut out[..20]), 0);
+        }
+    });
+    line("exonic call, single with build", count, theirs, ours);
+}
+
+/// One kind of question to the proved library for some seconds, for a profiler.
+pub fn spin(what: &str, count: u32) -> bool {
+    let c = case(&mut Rng::new(11), count);
+    let t = c.lent.transcript();
+    let lists = lists(&c);
+    let mut out = vec![0; 20 * MANY];
+    let mut work: Box<dyn FnMut() -> u8> = match what {
+        "admit" => Box::new(|| unsafe { ask_raw!(vareffect_admit(; black_box(&t);)) }),
+        "index" => Box::new(|| proved_places(black_box(&t), &[], &mut [])),
+        "place" => Box::new(|| proved_place(&t, black_box(c.places[0]), &mut out[..8])),
+        "places" => Box::new(|| proved_places(&t, black_box(&c.places), &mut out[..8 * MANY])),
+        "call" => Box::new(|| proved_call(&t, &c.fasta, black_box(c.calls[0]), &mut out[..20])),
+        "calls" => Box::new(|| proved_calls(&t, &c.fasta, black_box(&lists), &mut out)),
+        _ => return false,
+    };
+    let begin = Instant::now();
+    while begin.elapsed().as_secs() < 3 {
+        for _ in 0..100 {
+            assert_eq!(work(), 0);
+        }
+    }
+    true
+}
+
+pub fn run() {
+    println!("{:<34} {:>5} {:>10} {:>10} {:>7}", "what", "exons", "Rust ns", "ours ns", "ratio");
+    let mut rng = Rng::new(11);
+    for count in SIZES {
+        let c = case(&mut rng, count);
+        time_build(count, &c);
+        time_places(count, &c, "random", &c.places);
+        let mut ascending = c.places.clone();
+        ascending.sort_unstable();
+        time_places(count, &c, "ascending", &ascending);
+        time_calls(count, &c);
+    }
+}

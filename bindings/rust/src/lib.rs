@@ -1,0 +1,17 @@
+//! Where a base falls on a transcript and what a single-base call does there,
+//! answered by the proved static library `libinterface.a`.
+//!
+//! Coordinates count from 0 and ends are not included; exons, segments and
+//! selenocysteine bases stand in strand order. What cannot be answered is a
+//! [`Refusal`] with its number.
+
+mod call;
+mod place;
+pub mod raw;
+mod terms;
+mod transcript;
+
+pub use call::{AminoAcids, Call, Codon, Codons, ConsequenceResult, Numbered, Window, call, calls};
+pub use place::{SpliceSide, VariantLocation, place, places};
+pub use terms::{TERM_NAMES, Terms};
+pub use transcript::{Refusal, Strand, Transcript, admit};
