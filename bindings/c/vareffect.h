@@ -75,6 +75,7 @@ enum {
   VAREFFECT_CALL_WORDS = 20
 };
 
+/* Kinds of a place. */
 enum {
   VAREFFECT_UPSTREAM, VAREFFECT_DOWNSTREAM, VAREFFECT_DISTAL,
   VAREFFECT_FIVE_PRIME_UTR, VAREFFECT_CDS_EXON, VAREFFECT_THREE_PRIME_UTR,
@@ -112,6 +113,23 @@ uint8_t vareffect_calls(uint16_t window_chromosome, uint64_t window_first,
                         const uint8_t *refs, size_t refs_len,
                         const uint8_t *alts, size_t alts_len,
                         VAREFFECT_TRANSCRIPT, int64_t *out, size_t out_len);
+
+/* About [start, end); start equal to end is an insertion before start. out: 7
+   words: 0; side (0 overlaps, 1 upstream, 2 downstream, 3 far); distance; 1
+   where an end lies in a short intron (1 to 13 bases); that intron's index; 1
+   where the donor's, 1 where the acceptor's splice window is reached from the
+   exon. */
+uint8_t vareffect_interval(uint16_t chromosome, uint64_t start, uint64_t end,
+                           VAREFFECT_TRANSCRIPT, int64_t *out, size_t out_len);
+
+/* Is a deck (docs/MANUAL.md, "deck.bin") accepted? 0, or the number of the
+   refusal and 256 times the record at fault. */
+uint32_t vareffect_check_deck(const uint8_t *bytes, size_t bytes_len);
+
+/* How many transcripts an accepted deck has, 0 of a refused one; their ids are
+   stored in `ids` as far as it reaches. */
+uint32_t vareffect_deck_ids(const uint8_t *bytes, size_t bytes_len,
+                            uint32_t *ids, size_t ids_len);
 
 #ifdef __cplusplus
 }

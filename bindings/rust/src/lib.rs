@@ -6,12 +6,16 @@
 //! [`Refusal`] with its number.
 
 mod call;
+mod deck;
+mod interval;
 mod place;
 pub mod raw;
 mod terms;
 mod transcript;
 
 pub use call::{AminoAcids, Call, Codon, Codons, ConsequenceResult, Numbered, Window, call, calls};
+pub use deck::{DeckRefusal, check_deck, deck_ids};
+pub use interval::{Flank, Interval, SpliceSpill, interval};
 pub use place::{SpliceSide, VariantLocation, place, places};
 pub use terms::{TERM_NAMES, Terms};
 pub use transcript::{Refusal, Strand, Transcript, admit};

@@ -46,6 +46,8 @@ exported! {
         chromosome: u16, positions: *const u64, positions_len: usize;
         out: *mut i64, out_len: usize
     );
+    /// 7 numbers.
+    vareffect_interval(chromosome: u16, start: u64, end: u64; out: *mut i64, out_len: usize);
     /// 20 numbers.
     vareffect_call(
         window_chromosome: u16, window_first: u64, window: *const u8, window_len: usize,
@@ -60,6 +62,18 @@ exported! {
         refs: *const u8, refs_len: usize, alts: *const u8, alts_len: usize;
         out: *mut i64, out_len: usize
     );
+}
+
+unsafe extern "C" {
+    /// 0, or the number of the refusal and 256 times the record at fault.
+    pub fn vareffect_check_deck(bytes: *const u8, bytes_len: usize) -> u32;
+    /// How many transcripts; their ids as far as `ids` reaches.
+    pub fn vareffect_deck_ids(
+        bytes: *const u8,
+        bytes_len: usize,
+        ids: *mut u32,
+        ids_len: usize,
+    ) -> u32;
 }
 
 /// Calls an exported function with what stands before the transcript, the

@@ -184,3 +184,54 @@ fn lists_are_the_single_answers() {
         }
     }
 }
+
+#[test]
+fn intervals() {
+    let none = Interval {
+        flank: Flank::Overlaps,
+        frameshift_intron: None,
+        spill: None,
+    };
+    assert_eq!(interval(1, 110, 120, &T1), Ok(none));
+    let upstream = Interval { flank: Flank::Upstream(0), ..none };
+    assert_eq!(interval(1, 100, 100, &T1), Ok(upstream));
+    assert_eq!(interval(1, 6_000, 6_001, &T1), Ok(Interval { flank: Flank::Far, ..none }));
+    // A gap of one base.
+    let short = Transcript {
+        tx_end: 161,
+        exon_starts: &[100, 131],
+        exon_ends: &[130, 161],
+        strand: Strand::Plus,
+        ..T2
+    };
+    let spill = Some(SpliceSpill { donor: false, acceptor: true });
+    assert_eq!(interval(1, 130, 130, &short), Ok(Interval { spill, ..none }));
+    let held = Interval { frameshift_intron: Some(0), ..none };
+    assert_eq!(interval(1, 130, 131, &short), Ok(held));
+    assert_eq!(interval(1, 131, 130, &short), Err(Refusal(15)));
+    assert_eq!(interval(2, 130, 131, &short), Err(Refusal(14)));
+    assert_eq!(interval(1, 130, 131, &Transcript { tx_start: 99, ..short }), Err(Refusal(4)));
+}
+
+#[test]
+fn decks() {
+    let deck = include_bytes!("../../../demo/panel/deck.bin");
+    let text = include_str!("../../../demo/panel/deck.txt");
+    let ids: Vec<u32> = text
+        .lines()
+        .filter_map(|line| line.strip_prefix("transcript ")?.split(' ').next()?.parse().ok())
+        .collect();
+    assert_eq!(check_deck(deck), Ok(()));
+    assert_eq!(deck_ids(deck), Ok(ids));
+    let refused = |bytes, number, record| {
+        let due = DeckRefusal { number, record };
+        assert_eq!(check_deck(bytes), Err(due));
+        assert_eq!(deck_ids(bytes), Err(due));
+    };
+    refused(&[], 22, 0);
+    refused(&deck[1..], 22, 0);
+    refused(&[0; 16], 25, 0);
+    let mut unknown = *deck;
+    unknown[32] = 9;
+    refused(&unknown, 23, 2);
+}
