@@ -19,7 +19,11 @@ impl Lent {
         let head = Transcript {
             id: tx.id,
             chromosome: tx.chrom,
-            strand: if tx.minus { Strand::Minus } else { Strand::Plus },
+            strand: if tx.minus {
+                Strand::Minus
+            } else {
+                Strand::Plus
+            },
             exon_count: tx.exons.len() as u16,
             tx_start: u64::from(tx.tx_start()),
             tx_end: u64::from(tx.tx_end()),

@@ -8,9 +8,12 @@ mod consequence;
 /// The oracle's own generators.
 #[allow(dead_code)]
 mod driver {
+    pub mod admission;
     pub mod answer;
     pub mod bases;
     pub mod call;
+    pub mod deck;
+    pub mod deck_record;
     pub mod place;
     pub mod record;
     pub mod rng;

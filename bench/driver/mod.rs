@@ -1,6 +1,10 @@
 //! Compares the Rust with the proved library, and times both.
 
+mod compare;
+mod decks;
+mod judge;
 mod lent;
+mod made;
 mod time;
 
 use std::process::ExitCode;
@@ -9,12 +13,25 @@ pub fn run() -> ExitCode {
     let words: Vec<String> = std::env::args().skip(1).collect();
     let words: Vec<&str> = words.iter().map(String::as_str).collect();
     match words[..] {
+        ["compare", count] | ["compare", count, _] => {
+            let seed = words.get(2).map_or("1", |seed| seed);
+            let (Ok(count), Ok(seed)) = (count.parse(), seed.parse()) else {
+                return usage();
+            };
+            if !compare::run(count, seed) {
+                return ExitCode::FAILURE;
+            }
+        }
         ["time"] => time::run(),
         ["spin", what, exons] if time::spin(what, exons.parse().unwrap_or(1)) => {}
-        _ => {
-            eprintln!("usage: time | spin admit|index|place|places|call|calls EXONS");
-            return ExitCode::FAILURE;
-        }
+        _ => return usage(),
     }
     ExitCode::SUCCESS
+}
+
+fn usage() -> ExitCode {
+    eprintln!(
+        "usage: compare COUNT [SEED] | time | spin admit|index|place|places|call|calls EXONS"
+    );
+    ExitCode::FAILURE
 }

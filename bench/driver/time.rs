@@ -1,12 +1,12 @@
 //! Times of the Rust and of the proved library on the same questions.
 
 use super::lent::Lent;
+use super::made::gene;
 use crate::consequence::snv::annotate_snv_verified;
 use crate::driver::answer::Subject;
 use crate::driver::call::window;
-use crate::driver::record::Tx;
 use crate::driver::rng::Rng;
-use crate::driver::shape::{coding_bases, coordinate, exonic, plain, set_cds};
+use crate::driver::shape::{coding_bases, coordinate, exonic};
 use crate::fasta::FastaReader;
 use crate::locate::{LocateIndex, locate_variant};
 use std::hint::black_box;
@@ -34,17 +34,10 @@ fn best(count: usize, mut work: impl FnMut()) -> f64 {
 
 /// The Rust first, then the library: times and ratio.
 fn line(what: &str, exons: u32, theirs: f64, ours: f64) {
-    println!("{what:<34} {exons:>5} {theirs:>10.1} {ours:>10.1} {:>7.2}", theirs / ours);
-}
-
-/// A transcript like a gene's: exons of 60 to 300 bases, introns of 80 to 3000.
-fn gene(rng: &mut Rng, count: u32, minus: bool) -> Tx {
-    let lens: Vec<u32> = (0..count).map(|_| rng.between(60, 300)).collect();
-    let gaps: Vec<u32> = (1..count).map(|_| rng.between(80, 3000)).collect();
-    let mut tx = plain(1, 7, minus, 1_000_000, &lens, &gaps);
-    let total = exonic(&tx);
-    set_cds(&mut tx, total / 10, total - 1 - total / 10, 0, true);
-    tx
+    println!(
+        "{what:<34} {exons:>5} {theirs:>10.1} {ours:>10.1} {:>7.2}",
+        theirs / ours
+    );
 }
 
 struct Case {
@@ -192,7 +185,12 @@ fn time_places(count: u32, c: &Case, order: &str, places: &[u64]) {
             assert_eq!(proved_place(&t, black_box(at), &mut out[..8]), 0);
         }
     });
-    line(&format!("place, single with build, {order}"), count, theirs, ours);
+    line(
+        &format!("place, single with build, {order}"),
+        count,
+        theirs,
+        ours,
+    );
 }
 
 fn time_calls(count: u32, c: &Case) {
@@ -237,7 +235,10 @@ fn time_calls(count: u32, c: &Case) {
     });
     let ours = best(few.len(), || {
         for &call in few {
-            assert_eq!(proved_call(&t, &c.fasta, black_box(call), &mut out[..20]), 0);
+            assert_eq!(
+                proved_call(&t, &c.fasta, black_box(call), &mut out[..20]),
+                0
+            );
         }
     });
     line("exonic call, single with build", count, theirs, ours);
@@ -268,7 +269,10 @@ pub fn spin(what: &str, count: u32) -> bool {
 }
 
 pub fn run() {
-    println!("{:<34} {:>5} {:>10} {:>10} {:>7}", "what", "exons", "Rust ns", "ours ns", "ratio");
+    println!(
+        "{:<34} {:>5} {:>10} {:>10} {:>7}",
+        "what", "exons", "Rust ns", "ours ns", "ratio"
+    );
     let mut rng = Rng::new(11);
     for count in SIZES {
         let c = case(&mut rng, count);

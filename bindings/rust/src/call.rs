@@ -54,7 +54,11 @@ impl Codons {
                     b.to_ascii_lowercase()
                 }
             };
-            codon.bases[..usize::from(codon.len)].iter().enumerate().map(shown).collect()
+            codon.bases[..usize::from(codon.len)]
+                .iter()
+                .enumerate()
+                .map(shown)
+                .collect()
         };
         [one(&self.reference), one(&self.altered)].join(&b'/')
     }

@@ -12,7 +12,11 @@ pub struct DeckRefusal {
 
 impl fmt::Display for DeckRefusal {
     fn fmt(&self, f: &mut fmt::Formatter) -> fmt::Result {
-        write!(f, "refused, number {} at record {}", self.number, self.record)
+        write!(
+            f,
+            "refused, number {} at record {}",
+            self.number, self.record
+        )
     }
 }
 

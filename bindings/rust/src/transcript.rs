@@ -17,7 +17,11 @@ impl std::error::Error for Refusal {}
 
 /// `Ok` for 0.
 pub(crate) fn judged(number: u8) -> Result<(), Refusal> {
-    if number == 0 { Ok(()) } else { Err(Refusal(number)) }
+    if number == 0 {
+        Ok(())
+    } else {
+        Err(Refusal(number))
+    }
 }
 
 #[derive(Debug, Clone, Copy, PartialEq, Eq)]

@@ -82,9 +82,16 @@ fn line(number: u32, id: u32, answer: &ConsequenceResult) -> String {
 #[test]
 fn documented_lines() {
     let bases = bases();
-    let asked = [on(111, b'T', b'C'), on(129, b'A', b'C'), on(130, b'A', b'G')];
+    let asked = [
+        on(111, b'T', b'C'),
+        on(129, b'A', b'C'),
+        on(130, b'A', b'G'),
+    ];
     let answers = calls(window(&bases), &asked, &T1).unwrap();
-    let lines: Vec<String> = (1..).zip(&answers).map(|(i, a)| line(i, 7, &a.unwrap())).collect();
+    let lines: Vec<String> = (1..)
+        .zip(&answers)
+        .map(|(i, a)| line(i, 7, &a.unwrap()))
+        .collect();
     assert_eq!(
         lines.join("\n") + "\n",
         include_str!("../../../crates/example_calls/stdout")
@@ -107,7 +114,10 @@ fn documented_places() {
         offset: 1,
     };
     assert_eq!(place(1, 130, 131, &T1), Ok(donor));
-    assert_eq!(place(1, 99, 100, &T2), Ok(VariantLocation::Downstream { distance: 1 }));
+    assert_eq!(
+        place(1, 99, 100, &T2),
+        Ok(VariantLocation::Downstream { distance: 1 })
+    );
     assert_eq!(place(1, 5_190, 5_191, &T1), Ok(VariantLocation::Distal));
 }
 
@@ -118,22 +128,92 @@ fn transcripts_refused() {
         (0, t),
         (0, T2),
         (1, Transcript { exon_count: 3, ..t }),
-        (1, Transcript { seg_ends: &[130], ..t }),
-        (2, Transcript { chromosome: 26, ..t }),
-        (3, Transcript { strand: Strand::Minus, ..t }),
+        (
+            1,
+            Transcript {
+                seg_ends: &[130],
+                ..t
+            },
+        ),
+        (
+            2,
+            Transcript {
+                chromosome: 26,
+                ..t
+            },
+        ),
+        (
+            3,
+            Transcript {
+                strand: Strand::Minus,
+                ..t
+            },
+        ),
         (4, Transcript { tx_end: 191, ..t }),
         (5, Transcript { cds: None, ..t }),
-        (6, Transcript { seg_phases: &[0, 3], ..t }),
-        (7, Transcript { seg_phases: &[1, 1], ..t }),
-        (8, Transcript { seg_exons: &[0, 2], ..t }),
-        (9, Transcript { seg_exons: &[1, 1], ..t }),
-        (10, Transcript { cds: Some((140, 170)), ..t }),
-        (11, Transcript { cds: Some((110, 150)), ..t }),
-        (12, Transcript { seg_ends: &[130, 169], ..t }),
-        (13, Transcript { selenocysteine: &[109], ..t }),
+        (
+            6,
+            Transcript {
+                seg_phases: &[0, 3],
+                ..t
+            },
+        ),
+        (
+            7,
+            Transcript {
+                seg_phases: &[1, 1],
+                ..t
+            },
+        ),
+        (
+            8,
+            Transcript {
+                seg_exons: &[0, 2],
+                ..t
+            },
+        ),
+        (
+            9,
+            Transcript {
+                seg_exons: &[1, 1],
+                ..t
+            },
+        ),
+        (
+            10,
+            Transcript {
+                cds: Some((140, 170)),
+                ..t
+            },
+        ),
+        (
+            11,
+            Transcript {
+                cds: Some((110, 150)),
+                ..t
+            },
+        ),
+        (
+            12,
+            Transcript {
+                seg_ends: &[130, 169],
+                ..t
+            },
+        ),
+        (
+            13,
+            Transcript {
+                selenocysteine: &[109],
+                ..t
+            },
+        ),
     ];
     for (number, transcript) in &cases {
-        let due = if *number == 0 { Ok(()) } else { Err(Refusal(*number)) };
+        let due = if *number == 0 {
+            Ok(())
+        } else {
+            Err(Refusal(*number))
+        };
         assert_eq!(admit(transcript), due);
         assert_eq!(place(1, 111, 112, transcript).map(|_| ()), due);
         assert_eq!(places(1, &[111], transcript).map(|_| ()), due);
@@ -146,25 +226,46 @@ fn transcripts_refused() {
 fn questions_refused() {
     assert_eq!(place(2, 111, 112, &T1), Err(Refusal(14)));
     assert_eq!(place(1, 111, 111, &T1), Err(Refusal(15)));
-    assert_eq!(place(1, 1_000_010_000, 1_000_010_001, &T1), Err(Refusal(15)));
+    assert_eq!(
+        place(1, 1_000_010_000, 1_000_010_001, &T1),
+        Err(Refusal(15))
+    );
     let bases = bases();
     let whole = window(&bases);
     let asked = |w, c| call(w, c, &T1).unwrap_err().0;
-    assert_eq!(asked(Window { chromosome: 2, ..whole }, on(111, b'T', b'C')), 14);
+    assert_eq!(
+        asked(
+            Window {
+                chromosome: 2,
+                ..whole
+            },
+            on(111, b'T', b'C')
+        ),
+        14
+    );
     assert_eq!(asked(whole, on(1_000_010_000, b'T', b'C')), 15);
     assert_eq!(asked(whole, on(111, b'T', b'T')), 16);
     assert_eq!(asked(whole, on(111, b'T', b'N')), 16);
     assert_eq!(asked(whole, on(190, b'A', b'C')), 17);
     assert_eq!(asked(whole, on(111, b't', b'C')), 18);
-    let far = Window { first: 6_000, ..whole };
+    let far = Window {
+        first: 6_000,
+        ..whole
+    };
     assert_eq!(asked(far, on(6_000, b'A', b'C')), 19);
-    let narrow = Window { first: 111, bases: &bases[11..12], ..whole };
+    let narrow = Window {
+        first: 111,
+        bases: &bases[11..12],
+        ..whole
+    };
     assert_eq!(asked(narrow, on(111, b'T', b'C')), 21);
 }
 
 #[test]
 fn lists_are_the_single_answers() {
-    let positions: Vec<u64> = (0..6_000).chain([1_000_009_999, 1_000_010_000, u64::MAX]).collect();
+    let positions: Vec<u64> = (0..6_000)
+        .chain([1_000_009_999, 1_000_010_000, u64::MAX])
+        .collect();
     for t in [T1, T2] {
         for chromosome in [1, 2] {
             let list = places(chromosome, &positions, &t).unwrap();
@@ -193,9 +294,18 @@ fn intervals() {
         spill: None,
     };
     assert_eq!(interval(1, 110, 120, &T1), Ok(none));
-    let upstream = Interval { flank: Flank::Upstream(0), ..none };
+    let upstream = Interval {
+        flank: Flank::Upstream(0),
+        ..none
+    };
     assert_eq!(interval(1, 100, 100, &T1), Ok(upstream));
-    assert_eq!(interval(1, 6_000, 6_001, &T1), Ok(Interval { flank: Flank::Far, ..none }));
+    assert_eq!(
+        interval(1, 6_000, 6_001, &T1),
+        Ok(Interval {
+            flank: Flank::Far,
+            ..none
+        })
+    );
     // A gap of one base.
     let short = Transcript {
         tx_end: 161,
@@ -204,13 +314,33 @@ fn intervals() {
         strand: Strand::Plus,
         ..T2
     };
-    let spill = Some(SpliceSpill { donor: false, acceptor: true });
-    assert_eq!(interval(1, 130, 130, &short), Ok(Interval { spill, ..none }));
-    let held = Interval { frameshift_intron: Some(0), ..none };
+    let spill = Some(SpliceSpill {
+        donor: false,
+        acceptor: true,
+    });
+    assert_eq!(
+        interval(1, 130, 130, &short),
+        Ok(Interval { spill, ..none })
+    );
+    let held = Interval {
+        frameshift_intron: Some(0),
+        ..none
+    };
     assert_eq!(interval(1, 130, 131, &short), Ok(held));
     assert_eq!(interval(1, 131, 130, &short), Err(Refusal(15)));
     assert_eq!(interval(2, 130, 131, &short), Err(Refusal(14)));
-    assert_eq!(interval(1, 130, 131, &Transcript { tx_start: 99, ..short }), Err(Refusal(4)));
+    assert_eq!(
+        interval(
+            1,
+            130,
+            131,
+            &Transcript {
+                tx_start: 99,
+                ..short
+            }
+        ),
+        Err(Refusal(4))
+    );
 }
 
 #[test]
@@ -219,7 +349,13 @@ fn decks() {
     let text = include_str!("../../../demo/panel/deck.txt");
     let ids: Vec<u32> = text
         .lines()
-        .filter_map(|line| line.strip_prefix("transcript ")?.split(' ').next()?.parse().ok())
+        .filter_map(|line| {
+            line.strip_prefix("transcript ")?
+                .split(' ')
+                .next()?
+                .parse()
+                .ok()
+        })
         .collect();
     assert_eq!(check_deck(deck), Ok(()));
     assert_eq!(deck_ids(deck), Ok(ids));
