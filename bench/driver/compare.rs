@@ -75,7 +75,8 @@ fn told(tx: &Tx) -> String {
         let _ = write!(text, " {}:{}:{}-{}", s.phase, s.exon, s.start, s.end);
     }
     if !tx.sec.is_empty() {
-        let _ = write!(text, "\nselenocysteine {:?}", tx.sec);
+        let bases: Vec<String> = tx.sec.iter().map(u32::to_string).collect();
+        let _ = write!(text, "\nselenocysteine {}", bases.join(" "));
     }
     text
 }
@@ -213,9 +214,9 @@ fn calls(rng: &mut Rng, s: &Subject, t: &Transcript, tally: &mut Tally) {
         let listed = list.as_ref().is_ok_and(|list| list[i] == got);
         tally.count(alike && listed, due.is_err(), || {
             format!(
-                "{}\nwindow {chromosome} {first} {:?}\n{one:?}: the Rust {due:?}, the library {got:?}, in a list {:?}",
+                "{}\nwindow {chromosome} {first} {}\n{one:?}: the Rust {due:?}, the library {got:?}, in a list {:?}",
                 told(&s.tx),
-                window.fasta.bytes.escape_ascii().to_string(),
+                window.fasta.bytes.escape_ascii(),
                 list.as_ref().map(|list| list[i])
             )
         });
