@@ -131,6 +131,15 @@ uint32_t vareffect_check_deck(const uint8_t *bytes, size_t bytes_len);
 uint32_t vareffect_deck_ids(const uint8_t *bytes, size_t bytes_len,
                             uint32_t *ids, size_t ids_len);
 
+/* The lister's line of a call on a transcript, newline included, under a line
+   number; a refused call gives the line of its refusal. Its length, or 0 where
+   it does not fit in `out` (1553 bytes hold every line). */
+size_t vareffect_line(uint64_t number, uint16_t window_chromosome,
+                      uint64_t window_first, const uint8_t *window,
+                      size_t window_len, uint16_t chromosome, uint64_t position,
+                      uint8_t ref_base, uint8_t alt_base, VAREFFECT_TRANSCRIPT,
+                      uint8_t *out, size_t out_len);
+
 #ifdef __cplusplus
 }
 #endif

@@ -8,6 +8,7 @@
 mod call;
 mod deck;
 mod interval;
+mod line;
 mod place;
 pub mod raw;
 mod terms;
@@ -16,6 +17,7 @@ mod transcript;
 pub use call::{AminoAcids, Call, Codon, Codons, ConsequenceResult, Numbered, Window, call, calls};
 pub use deck::{DeckRefusal, check_deck, deck_ids};
 pub use interval::{Flank, Interval, SpliceSpill, interval};
+pub use line::line;
 pub use place::{SpliceSide, VariantLocation, place, places};
 pub use terms::{TERM_NAMES, Terms};
 pub use transcript::{Refusal, Strand, Transcript, admit};

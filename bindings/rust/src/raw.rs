@@ -2,7 +2,7 @@
 #![allow(clippy::too_many_arguments)]
 
 macro_rules! exported {
-    ($($(#[$note:meta])* $name:ident($($before:ident: $b:ty),*; $($after:ident: $a:ty),*);)*) => {
+    ($($(#[$note:meta])* $name:ident($($before:ident: $b:ty),*; $($after:ident: $a:ty),*) -> $r:ty;)*) => {
         unsafe extern "C" {
             $($(#[$note])* pub fn $name(
                 $($before: $b,)*
@@ -31,29 +31,29 @@ macro_rules! exported {
                 selenocysteine: *const u64,
                 selenocysteine_len: usize,
                 $($after: $a,)*
-            ) -> u8;)*
+            ) -> $r;)*
         }
     };
 }
 
 exported! {
     /// 0, or the refusal of the transcript.
-    vareffect_admit(;);
+    vareffect_admit(;) -> u8;
     /// 8 numbers.
-    vareffect_place(chromosome: u16, start: u64, end: u64; out: *mut i64, out_len: usize);
+    vareffect_place(chromosome: u16, start: u64, end: u64; out: *mut i64, out_len: usize) -> u8;
     /// 8 numbers for each position.
     vareffect_places(
         chromosome: u16, positions: *const u64, positions_len: usize;
         out: *mut i64, out_len: usize
-    );
+    ) -> u8;
     /// 7 numbers.
-    vareffect_interval(chromosome: u16, start: u64, end: u64; out: *mut i64, out_len: usize);
+    vareffect_interval(chromosome: u16, start: u64, end: u64; out: *mut i64, out_len: usize) -> u8;
     /// 20 numbers.
     vareffect_call(
         window_chromosome: u16, window_first: u64, window: *const u8, window_len: usize,
         chromosome: u16, position: u64, ref_base: u8, alt_base: u8;
         out: *mut i64, out_len: usize
-    );
+    ) -> u8;
     /// 20 numbers for each call.
     vareffect_calls(
         window_chromosome: u16, window_first: u64, window: *const u8, window_len: usize,
@@ -61,7 +61,14 @@ exported! {
         positions: *const u64, positions_len: usize,
         refs: *const u8, refs_len: usize, alts: *const u8, alts_len: usize;
         out: *mut i64, out_len: usize
-    );
+    ) -> u8;
+    /// The length of the line, 0 where it does not fit.
+    vareffect_line(
+        number: u64,
+        window_chromosome: u16, window_first: u64, window: *const u8, window_len: usize,
+        chromosome: u16, position: u64, ref_base: u8, alt_base: u8;
+        out: *mut u8, out_len: usize
+    ) -> usize;
 }
 
 unsafe extern "C" {

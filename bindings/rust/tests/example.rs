@@ -58,7 +58,7 @@ fn on(position: u64, ref_base: u8, alt_base: u8) -> Call {
 }
 
 /// A line of the lister.
-fn line(number: u32, id: u32, answer: &ConsequenceResult) -> String {
+fn shown(number: u32, id: u32, answer: &ConsequenceResult) -> String {
     let of = |n: Option<Numbered>| n.map_or("-".into(), |n| format!("{}/{}", n.number, n.total));
     let count = |n: Option<u32>| n.map_or("-".into(), |n| n.to_string());
     let text = |t: Option<Vec<u8>>| t.map_or("-".into(), |t| String::from_utf8(t).unwrap());
@@ -90,12 +90,25 @@ fn documented_lines() {
     let answers = calls(window(&bases), &asked, &T1).unwrap();
     let lines: Vec<String> = (1..)
         .zip(&answers)
-        .map(|(i, a)| line(i, 7, &a.unwrap()))
+        .map(|(i, a)| shown(i, 7, &a.unwrap()))
         .collect();
     assert_eq!(
         lines.join("\n") + "\n",
         include_str!("../../../crates/example_calls/stdout")
     );
+}
+
+#[test]
+fn printed_lines() {
+    let bases = bases();
+    let w = window(&bases);
+    let lines: Vec<u8> = [on(111, b'T', b'C'), on(129, b'A', b'C'), on(130, b'A', b'G')]
+        .iter()
+        .zip(1..)
+        .flat_map(|(call, number)| line(number, w, *call, &T1))
+        .collect();
+    assert_eq!(lines, include_bytes!("../../../crates/example_calls/stdout"));
+    assert_eq!(line(9, w, on(111, b'G', b'C'), &T1), b"9 7 18\n");
 }
 
 #[test]
