@@ -35,7 +35,7 @@ fn best(count: usize, mut work: impl FnMut()) -> f64 {
 /// The Rust first, then the library: times and ratio.
 fn line(what: &str, exons: u32, theirs: f64, ours: f64) {
     println!(
-        "{what:<34} {exons:>5} {theirs:>10.1} {ours:>10.1} {:>7.2}",
+        "{what:<28} {exons:>5} {theirs:>10.1} {ours:>10.1} {:>7.2}",
         theirs / ours
     );
 }
@@ -48,8 +48,8 @@ struct Case {
     calls: Vec<(u64, u8, u8)>,
 }
 
-fn case(rng: &mut Rng, count: u32) -> Case {
-    let tx = gene(rng, count, count % 2 == 0);
+fn case(rng: &mut Rng, count: u32, minus: bool) -> Case {
+    let tx = gene(rng, count, minus);
     let (low, end) = (tx.tx_start(), tx.tx_end());
     // Half of the positions anywhere on the transcript, half in exons.
     let total = exonic(&tx);
@@ -136,7 +136,7 @@ fn build(s: &Subject) -> LocateIndex {
 }
 
 /// Rust: the index; ours: admission alone, then admission and index.
-fn time_build(count: u32, c: &Case) {
+fn time_build(count: u32, strand: &str, c: &Case) {
     let theirs = best(16, || {
         for _ in 0..16 {
             black_box(build(&c.subject));
@@ -148,13 +148,18 @@ fn time_build(count: u32, c: &Case) {
             assert_eq!(unsafe { ask_raw!(vareffect_admit(; black_box(&t);)) }, 0);
         }
     });
-    line("index build / admit", count, theirs, admit);
+    line(&format!("build / admit, {strand}"), count, theirs, admit);
     let index = best(16, || {
         for _ in 0..16 {
             assert_eq!(proved_places(black_box(&t), &[], &mut []), 0);
         }
     });
-    line("index build / admit + index", count, theirs, index);
+    line(
+        &format!("build / admit + index, {strand}"),
+        count,
+        theirs,
+        index,
+    );
 }
 
 fn time_places(count: u32, c: &Case, order: &str, places: &[u64]) {
@@ -185,15 +190,10 @@ fn time_places(count: u32, c: &Case, order: &str, places: &[u64]) {
             assert_eq!(proved_place(&t, black_box(at), &mut out[..8]), 0);
         }
     });
-    line(
-        &format!("place, single with build, {order}"),
-        count,
-        theirs,
-        ours,
-    );
+    line(&format!("place, single, {order}"), count, theirs, ours);
 }
 
-fn time_calls(count: u32, c: &Case) {
+fn time_calls(count: u32, strand: &str, c: &Case) {
     let (model, index) = (&c.subject.model, &c.subject.index);
     let theirs = best(MANY, || {
         for &(at, reference, alt) in &c.calls {
@@ -216,7 +216,7 @@ fn time_calls(count: u32, c: &Case) {
         assert_eq!(proved_calls(&t, &c.fasta, black_box(&lists), &mut out), 0);
         black_box(&out);
     });
-    line("exonic call, list", count, theirs, ours);
+    line(&format!("exonic call, list, {strand}"), count, theirs, ours);
     let few = &c.calls[..256];
     let theirs = best(few.len(), || {
         for &(at, reference, alt) in few {
@@ -241,12 +241,17 @@ fn time_calls(count: u32, c: &Case) {
             );
         }
     });
-    line("exonic call, single with build", count, theirs, ours);
+    line(
+        &format!("exonic call, single, {strand}"),
+        count,
+        theirs,
+        ours,
+    );
 }
 
 /// One kind of question to the proved library for some seconds, for a profiler.
 pub fn spin(what: &str, count: u32) -> bool {
-    let c = case(&mut Rng::new(11), count);
+    let c = case(&mut Rng::new(11), count, true);
     let t = c.lent.transcript();
     let lists = lists(&c);
     let mut out = vec![0; 20 * MANY];
@@ -270,17 +275,20 @@ pub fn spin(what: &str, count: u32) -> bool {
 
 pub fn run() {
     println!(
-        "{:<34} {:>5} {:>10} {:>10} {:>7}",
+        "{:<28} {:>5} {:>10} {:>10} {:>7}",
         "what", "exons", "Rust ns", "ours ns", "ratio"
     );
     let mut rng = Rng::new(11);
     for count in SIZES {
-        let c = case(&mut rng, count);
-        time_build(count, &c);
-        time_places(count, &c, "random", &c.places);
-        let mut ascending = c.places.clone();
+        let plus = case(&mut rng, count, false);
+        let minus = case(&mut rng, count, true);
+        time_build(count, "plus", &plus);
+        time_build(count, "minus", &minus);
+        time_places(count, &plus, "random", &plus.places);
+        let mut ascending = plus.places.clone();
         ascending.sort_unstable();
-        time_places(count, &c, "ascending", &ascending);
-        time_calls(count, &c);
+        time_places(count, &plus, "ascending", &ascending);
+        time_calls(count, "plus", &plus);
+        time_calls(count, "minus", &minus);
     }
 }
