@@ -186,7 +186,7 @@ fn intervals(rng: &mut Rng, s: &Subject, t: &Transcript, tally: &mut Tally) {
     }
 }
 
-fn calls(rng: &mut Rng, s: &Subject, t: &Transcript, tally: &mut Tally) {
+fn calls(rng: &mut Rng, s: &Subject, t: &Transcript, tally: &mut Tally, lines: &mut Tally) {
     let (first, bytes) = made::window(rng, &s.tx, &s.index);
     let own = s.tx.chrom;
     let chromosome = if rng.chance(98) {
@@ -203,11 +203,11 @@ fn calls(rng: &mut Rng, s: &Subject, t: &Transcript, tally: &mut Tally) {
     for (i, &one) in asked.iter().enumerate() {
         let due = judge::call(s, &window, &one);
         let got = proved::call(window.lent(), one, t);
+        let place = judge::place(s, own, one.position, one.position.saturating_add(1));
         let alike = match (&due, &got) {
-            (Ok(due), Ok(got)) => {
-                let place = judge::place(s, own, one.position, one.position + 1);
-                place.is_ok_and(|place| judge::same_answer(&place, due, got))
-            }
+            (Ok(due), Ok(got)) => place
+                .as_ref()
+                .is_ok_and(|place| judge::same_answer(place, due, got)),
             (Err(due), Err(got)) => *due == got.0,
             _ => false,
         };
@@ -220,18 +220,30 @@ fn calls(rng: &mut Rng, s: &Subject, t: &Transcript, tally: &mut Tally) {
                 list.as_ref().map(|list| list[i])
             )
         });
+        let number = rng.next() >> rng.below(64);
+        let written = judge::line(number, s.tx.id, &place, &due);
+        let got = proved::line(number, window.lent(), one, t);
+        lines.count(written == got, due.is_err(), || {
+            format!(
+                "{}\nwindow {chromosome} {first} {}\n{one:?}: the Rust {}, the library {}",
+                told(&s.tx),
+                window.fasta.bytes.escape_ascii(),
+                written.escape_ascii(),
+                got.escape_ascii()
+            )
+        });
     }
 }
 
 /// Asks about `count` questions and prints what differs; whether nothing does.
 pub fn run(count: u64, seed: u64) -> bool {
     let mut rng = Rng::new(seed);
-    let mut tallies = ["admission", "deck", "place", "interval", "call"].map(Tally::new);
+    let mut tallies = ["admission", "deck", "place", "interval", "call", "line"].map(Tally::new);
     let mut transcripts = 0_u32;
     while tallies.iter().map(|t| t.asked).sum::<u64>() < count {
         transcripts += 1;
         let tx = made::transcript(&mut rng, transcripts);
-        let [admitted, dealt, placed, beside, called] = &mut tallies;
+        let [admitted, dealt, placed, beside, called, printed] = &mut tallies;
         for _ in 0..4 {
             admissions(&mut rng, &tx, admitted);
         }
@@ -242,7 +254,7 @@ pub fn run(count: u64, seed: u64) -> bool {
         let subject = Subject::new(tx);
         places(&mut rng, &subject, &lent.transcript(), placed);
         intervals(&mut rng, &subject, &lent.transcript(), beside);
-        calls(&mut rng, &subject, &lent.transcript(), called);
+        calls(&mut rng, &subject, &lent.transcript(), called, printed);
     }
     let asked: u64 = tallies.iter().map(|t| t.asked).sum();
     let different: u64 = tallies.iter().map(|t| t.different).sum();

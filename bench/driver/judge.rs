@@ -4,6 +4,7 @@ use crate::consequence::ConsequenceResult;
 use crate::consequence::snv::annotate_snv_verified;
 use crate::driver::answer::Subject;
 use crate::driver::call::call_refusal;
+use crate::driver::listing_line::columns;
 use crate::driver::record::{QUERY_LIMIT, chrom_name};
 use crate::fasta::FastaReader;
 use crate::locate::helpers::{exonic_splice_spill, frameshift_intron_endpoint};
@@ -102,6 +103,30 @@ pub fn call(s: &Subject, window: &Window, call: &proved::Call) -> Result<Consequ
         &window.fasta,
     )
     .map_err(|error| call_refusal(&error))
+}
+
+/// The lister's line; `place` is that of the call.
+pub fn line(
+    number: u64,
+    id: u32,
+    place: &Result<VariantLocation, u8>,
+    answer: &Result<ConsequenceResult, u8>,
+) -> Vec<u8> {
+    let mut line = format!("{number} {id} ").into_bytes();
+    match (place, answer) {
+        (Ok(place), Ok(answer)) => {
+            let place = format!("{place:?}");
+            let name = place.split(' ').next().unwrap_or_default();
+            line.extend_from_slice(b"0 ");
+            line.extend(columns(name, answer));
+        }
+        (_, refused) => {
+            let number = refused.as_ref().err().map_or(0, |number| *number);
+            line.extend(number.to_string().bytes());
+        }
+    }
+    line.push(b'\n');
+    line
 }
 
 /// Whether the two places agree in case and every field.

@@ -12,8 +12,10 @@ mod driver {
     pub mod answer;
     pub mod bases;
     pub mod call;
+    pub mod call_line;
     pub mod deck;
     pub mod deck_record;
+    pub mod listing_line;
     pub mod place;
     pub mod record;
     pub mod rng;

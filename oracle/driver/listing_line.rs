@@ -71,7 +71,8 @@ pub fn answer(subject: &Subject, window: &Window, call: &Call) -> Result<Vec<u8>
     Ok(columns(name, &result))
 }
 
-fn columns(place: &str, result: &ConsequenceResult) -> Vec<u8> {
+/// The columns from place to terms.
+pub fn columns(place: &str, result: &ConsequenceResult) -> Vec<u8> {
     // A char of the Rust's text is one byte here, over 127 too.
     let text = |text: &Option<String>| -> Vec<u8> {
         let one_byte = |c| u8::try_from(c).expect("one byte");
