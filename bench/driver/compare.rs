@@ -199,10 +199,10 @@ fn calls(rng: &mut Rng, s: &Subject, t: &Transcript, tally: &mut Tally, lines: &
         .collect();
     let fasta = call::window(&s.tx, first, bytes);
     let window = Window { chromosome, fasta };
-    let list = proved::calls(window.lent(), &asked, t);
+    let list = proved::calls(judge::lent(&window), &asked, t);
     for (i, &one) in asked.iter().enumerate() {
         let due = judge::call(s, &window, &one);
-        let got = proved::call(window.lent(), one, t);
+        let got = proved::call(judge::lent(&window), one, t);
         let place = judge::place(s, own, one.position, one.position.saturating_add(1));
         let alike = match (&due, &got) {
             (Ok(due), Ok(got)) => place
@@ -222,7 +222,7 @@ fn calls(rng: &mut Rng, s: &Subject, t: &Transcript, tally: &mut Tally, lines: &
         });
         let number = rng.next() >> rng.below(64);
         let written = judge::line(number, s.tx.id, &place, &due);
-        let got = proved::line(number, window.lent(), one, t);
+        let got = proved::line(number, judge::lent(&window), one, t);
         lines.count(written == got, due.is_err(), || {
             format!(
                 "{}\nwindow {chromosome} {first} {}\n{one:?}: the Rust {}, the library {}",

@@ -1,34 +1,21 @@
 //! The Rust's answers, with the refusals that it does not have.
 
 use crate::consequence::ConsequenceResult;
-use crate::consequence::snv::annotate_snv_verified;
 use crate::driver::answer::Subject;
-use crate::driver::call::call_refusal;
-use crate::driver::listing_line::columns;
+use crate::driver::call_line::Call;
+pub use crate::driver::listing_line::Window;
+use crate::driver::listing_line::{columns, judged};
 use crate::driver::record::{QUERY_LIMIT, chrom_name};
-use crate::fasta::FastaReader;
 use crate::locate::helpers::{exonic_splice_spill, frameshift_intron_endpoint};
 use crate::locate::{Flank, VariantLocation, classify_flank, locate_variant};
 use vareffect_proved as proved;
 
-/// The window and its chromosome.
-pub struct Window {
-    pub chromosome: u16,
-    pub fasta: FastaReader,
-}
-
-impl Window {
-    pub fn lent(&self) -> proved::Window<'_> {
-        proved::Window {
-            chromosome: self.chromosome,
-            first: self.fasta.first,
-            bases: &self.fasta.bytes,
-        }
-    }
-
-    fn byte(&self, position: u64) -> Option<u8> {
-        let i = position.checked_sub(self.fasta.first)?;
-        self.fasta.bytes.get(usize::try_from(i).ok()?).copied()
+/// The window as it is lent to the proved library.
+pub fn lent(window: &Window) -> proved::Window<'_> {
+    proved::Window {
+        chromosome: window.chromosome,
+        first: window.fasta.first,
+        bases: &window.fasta.bytes,
     }
 }
 
@@ -74,35 +61,14 @@ pub fn interval(
     })
 }
 
-/// 14 to 18 and 20 are document 01's.
 pub fn call(s: &Subject, window: &Window, call: &proved::Call) -> Result<ConsequenceResult, u8> {
-    let own = s.tx.chrom;
-    if call.position >= u64::from(QUERY_LIMIT) {
-        return Err(15);
-    }
-    if call.chromosome != own || window.chromosome != own {
-        return Err(14);
-    }
-    if own == 25 {
-        return Err(20);
-    }
-    if !b"ACGT".contains(&call.alt_base) || call.alt_base == call.ref_base {
-        return Err(16);
-    }
-    let base = window.byte(call.position).ok_or(17)?;
-    if base != call.ref_base {
-        return Err(18);
-    }
-    annotate_snv_verified(
-        &s.model.chrom,
-        call.position,
-        call.ref_base,
-        call.alt_base,
-        &s.model,
-        &s.index,
-        &window.fasta,
-    )
-    .map_err(|error| call_refusal(&error))
+    let call = Call {
+        chromosome: call.chromosome,
+        position: call.position,
+        reference: call.ref_base,
+        alt: call.alt_base,
+    };
+    judged(s, window, &call)
 }
 
 /// The lister's line; `place` is that of the call.

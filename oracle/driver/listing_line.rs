@@ -8,9 +8,10 @@ use crate::consequence::ConsequenceResult;
 use crate::consequence::snv::annotate_snv_verified;
 use crate::fasta::FastaReader;
 
+/// The window and its chromosome.
 pub struct Window {
-    chromosome: u16,
-    fasta: FastaReader,
+    pub chromosome: u16,
+    pub fasta: FastaReader,
 }
 
 impl Window {
@@ -34,8 +35,12 @@ impl Window {
     }
 }
 
-/// The columns from place to terms, or the refusal of the call.
-pub fn answer(subject: &Subject, window: &Window, call: &Call) -> Result<Vec<u8>, u8> {
+/// The Rust's result, or the refusal of the call: 14 to 18 and 20 are document 01's.
+pub fn judged(
+    subject: &Subject,
+    window: &Window,
+    call: &Call,
+) -> Result<ConsequenceResult, u8> {
     let own = subject.tx.chrom;
     if call.position >= u64::from(QUERY_LIMIT) {
         return Err(15);
@@ -53,20 +58,22 @@ pub fn answer(subject: &Subject, window: &Window, call: &Call) -> Result<Vec<u8>
     if base != call.reference {
         return Err(18);
     }
-    let model = &subject.model;
-    let (position, fasta) = (call.position, &window.fasta);
-    let (reference, alt) = (call.reference, call.alt);
-    let result = annotate_snv_verified(
-        &model.chrom,
-        position,
-        reference,
-        alt,
-        model,
+    annotate_snv_verified(
+        &subject.model.chrom,
+        call.position,
+        call.reference,
+        call.alt,
+        &subject.model,
         &subject.index,
-        fasta,
+        &window.fasta,
     )
-    .map_err(|error| call_refusal(&error))?;
-    let place = format!("{:?}", subject.place(position as u32));
+    .map_err(|error| call_refusal(&error))
+}
+
+/// The columns from place to terms, or the refusal of the call.
+pub fn answer(subject: &Subject, window: &Window, call: &Call) -> Result<Vec<u8>, u8> {
+    let result = judged(subject, window, call)?;
+    let place = format!("{:?}", subject.place(call.position as u32));
     let name = place.split([' ', '{']).next().expect("a name");
     Ok(columns(name, &result))
 }
