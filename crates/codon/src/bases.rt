@@ -48,15 +48,23 @@ pub(crate) fn base_numbers(c: Codon) -> BaseNumbers
     }
 }
 
-// A and T, C and G are exchanged; every other byte stays.
+// A and T, C and G are exchanged; every other byte stays. Tests one after the other become conditional moves, a `match` a jump that random
+// bases make hard to predict.
 pub fn complement(b: u8) -> u8
     ensures { λ r. ⌜ r ≡ complementOf b ⌝ }
 {
-    match b {
-        b'A' => b'T',
-        b'T' => b'A',
-        b'C' => b'G',
-        b'G' => b'C',
-        _ => b,
+    let mut r = b;
+    if b == b'G' {
+        r = b'C';
     }
+    if b == b'C' {
+        r = b'G';
+    }
+    if b == b'T' {
+        r = b'A';
+    }
+    if b == b'A' {
+        r = b'T';
+    }
+    r
 }
