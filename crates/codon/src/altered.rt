@@ -32,26 +32,23 @@ ILVL*S*LLFLFILVFYSCFLFLFMLVL*SWLLFLFILVFYSCFLFLF";
 pub fn build_alt_codon(c: Codon, place: u8, b: u8) -> Codon
     ensures { λ r. ⌜ r ≡ buildAltCodon c place b ⌝ }
 {
-    match place {
-        0 => Codon {
-            len: c.len,
-            first: b,
-            second: c.second,
-            third: c.third,
-        },
-        1 => Codon {
-            len: c.len,
-            first: c.first,
-            second: b,
-            third: c.third,
-        },
-        2 => Codon {
-            len: c.len,
-            first: c.first,
-            second: c.second,
-            third: b,
-        },
-        _ => c,
+    let mut first = c.first;
+    if place == 0 {
+        first = b;
+    }
+    let mut second = c.second;
+    if place == 1 {
+        second = b;
+    }
+    let mut third = c.third;
+    if place == 2 {
+        third = b;
+    }
+    Codon {
+        len: c.len,
+        first,
+        second,
+        third,
     }
 }
 
