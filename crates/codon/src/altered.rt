@@ -1,8 +1,8 @@
 // A codon with one base replaced, and its letter.
 use crate::Codon;
-use crate::bases::base_number;
+use crate::bases::base_numbers;
 use crate::table::CodonIndex;
-use crate::table::codon_to_index;
+use crate::table::numbers_to_index;
 use crate::table::translate_codon;
 ghost use mathlib.Core.Path.{_≡_};
 ghost use Prim.Native.Nat.{_+_, _*_, _<_};
@@ -68,12 +68,13 @@ pub fn translate_altered_codon(c: Codon, place: u8, b: u8) -> u8
         return translate_codon(c);
     }
     // The base that stood at the place does not matter: A stands for it.
-    let CodonIndex::Numbered(n) = codon_to_index(build_alt_codon(c, place, b'A')) else {
+    let n = base_numbers(build_alt_codon(c, place, b'A'), b);
+    let CodonIndex::Numbered(codon) = numbers_to_index(n) else {
         return b'X';
     };
-    let k = base_number(b);
+    let k = n.other;
     if k > 3 {
         return b'X';
     }
-    altered_letter(n, place, k)
+    altered_letter(codon, place, k)
 }

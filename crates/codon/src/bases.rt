@@ -22,29 +22,24 @@ const BASE_NUMBERS: [u8; 256] = *b"\
 \x04\x04\x04\x04\x04\x04\x04\x04\x04\x04\x04\x04\x04\x04\x04\x04\
 \x04\x04\x04\x04\x04\x04\x04\x04\x04\x04\x04\x04\x04\x04\x04\x04";
 
-// The number of a base, 4 for none.
-pub(crate) fn base_number(b: u8) -> u8
-    ensures { λ r. ⌜ r ≡ baseNumber b ⌝ }
-{
-    BASE_NUMBERS[b as usize]
-}
-
-// The numbers of three bytes as bases.
+// The numbers of a codon's three bytes, and of another byte, as bases.
 pub(crate) struct BaseNumbers {
     pub first: u8,
     pub second: u8,
     pub third: u8,
+    pub other: u8,
 }
 
-// The numbers of a codon's bases, from one reading of the table.
-pub(crate) fn base_numbers(c: Codon) -> BaseNumbers
-    ensures { λ r. ⌜ (r .first ≡ baseNumber (c .first)) × (r .second ≡ baseNumber (c .second)) × (r .third ≡ baseNumber (c .third)) ⌝ }
+// The numbers of a codon's bases and of another byte, from one reading of the table.
+pub(crate) fn base_numbers(c: Codon, other: u8) -> BaseNumbers
+    ensures { λ r. ⌜ (r .first ≡ baseNumber (c .first)) × (r .second ≡ baseNumber (c .second)) × (r .third ≡ baseNumber (c .third)) × (r .other ≡ baseNumber other) ⌝ }
 {
     let numbers = BASE_NUMBERS;
     BaseNumbers {
         first: numbers[c.first as usize],
         second: numbers[c.second as usize],
         third: numbers[c.third as usize],
+        other: numbers[other as usize],
     }
 }
 

@@ -1,7 +1,10 @@
 // The genetic code: the letter of a codon.
 use crate::Codon;
+use crate::bases::BaseNumbers;
 use crate::bases::base_numbers;
 ghost use mathlib.Core.Path.{_≡_};
+ghost use Rattle.codon.specs.declared.Codon.{Codon};
+ghost use Rattle.codon.specs.Bases.{baseNumber};
 ghost use Rattle.codon.specs.Table.{standardTable, codonToIndex, translateCodon, isTga, translateReferenceCodon};
 
 // The place of a codon in a code table, 0 to 63.
@@ -17,11 +20,10 @@ QHQHPPPPRRRRLLLL\
 EDEDAAAAGGGGVVVV\
 *Y*YSSSS*CWCLFLF";
 
-// The place of a codon in the table, none where a byte is not A, C, G or T.
-pub(crate) fn codon_to_index(c: Codon) -> CodonIndex
-    ensures { λ r. ⌜ r ≡ codonToIndex c ⌝ }
+// The place in the table of a codon whose bytes have those numbers, none where one is no base.
+pub(crate) fn numbers_to_index(n: BaseNumbers) -> CodonIndex
+    ensures { λ r. ⌜ ((c : Codon) → n .first ≡ baseNumber (c .first) → n .second ≡ baseNumber (c .second) → n .third ≡ baseNumber (c .third) → r ≡ codonToIndex c) ⌝ }
 {
-    let n = base_numbers(c);
     if n.first > 3 {
         return CodonIndex::NoCodon;
     }
@@ -32,6 +34,13 @@ pub(crate) fn codon_to_index(c: Codon) -> CodonIndex
         return CodonIndex::NoCodon;
     }
     CodonIndex::Numbered(n.first * 16 + n.second * 4 + n.third)
+}
+
+// The place of a codon in the table, none where a byte is not A, C, G or T.
+fn codon_to_index(c: Codon) -> CodonIndex
+    ensures { λ r. ⌜ r ≡ codonToIndex c ⌝ }
+{
+    numbers_to_index(base_numbers(c, b'A'))
 }
 
 // The letter of a codon, X where a byte is not A, C, G or T.
