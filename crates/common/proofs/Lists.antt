@@ -1,9 +1,10 @@
 -- Tests over lists taken apart.
 -- Assumes nothing.
-use Prim.Native.Nat.{ℕ, _+_, _<_}
+use Prim.Native.Nat.{ℕ, zero, suc, _+_, _<_}
 use mathlib.Core.Path.{_≡_, refl, sym, _∙_, ap}
 use mathlib.Core.Bool.{Bool, true, false, _||_}
 use mathlib.Core.List.{List, [], _∷_, map}
+use native.Mathlib.Omega.{arith}
 use native.Mathlib.Numerals.{add-one}
 use lib.ListN.{length, getD, drop}
 use lib.Dec.{eqb}
@@ -50,6 +51,26 @@ module _ {A : Type 0} (f : A → Bool) (xs : List A) (i : ℕ) (d : A) (l : i < 
 
 pub any-end : {A : Type 0} (f : A → Bool) (xs : List A) (i : ℕ) → i ≡ length xs → any f (drop i xs) ≡ false
 any-end {A} f xs i e = ap (λ (l : List A). any f l) (ap (λ (k : ℕ). drop k xs) e ∙ drop-length xs) ∙ any-nil f
+
+-- of elements of which at most one, at index j, passes
+module _ {A : Type 0} (f : A → Bool) where
+  any-at : (xs : List A) (j : ℕ) (d : A) → j < length xs → f (getD xs j d) ≡ true → any f xs ≡ true
+  unfolding any
+  any-at [] j d l h = absurd (omega arith)
+  any-at (x ∷ xs) zero d l h = rw h
+  any-at (x ∷ xs) (suc j) d l h = or-right (f x) (any f xs) (any-at xs j d (omega arith) h)
+
+  pub any-off : (xs : List A) (d : A) → ((k : ℕ) → k < length xs → f (getD xs k d) ≡ true → ⊥) → false ≡ any f xs
+  unfolding any
+  any-off [] d h = refl
+  any-off (x ∷ xs) d h = on-test (f x)
+      (λ t. absurd (h 0 (omega arith) t))
+      (λ t. rw t (any-off xs d (λ k l. h (suc k) (omega arith))))
+
+  pub any-one : (xs : List A) (j : ℕ) (d : A) → j < length xs → ((k : ℕ) → k < length xs → f (getD xs k d) ≡ true → k ≡ j) → f (getD xs j d) ≡ any f xs
+  any-one xs j d l h = on-test (f (getD xs j d))
+      (λ t. t ∙ sym (any-at xs j d l t))
+      (λ t. t ∙ any-off xs d (λ k m e. true-false (sym e ∙ ap (λ (i : ℕ). f (getD xs i d)) (h k m e) ∙ t)))
 
 module _ (f : ℕ → Bool) where
   -- a test that some number of a list passes is passed by one that stands in it, and the reverse

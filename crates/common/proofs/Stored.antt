@@ -1,13 +1,13 @@
 -- Texts pushed into a buffer one behind the other.
 -- Assumes nothing.
-use Prim.Native.Nat.{ℕ, suc, _+_, _≤_, _<_}
+use Prim.Native.Nat.{ℕ, zero, suc, _+_, _-_, _≤_, _<_}
 use mathlib.Core.Path.{_≡_, refl, sym, _∙_, ap}
 use mathlib.Core.List.{List, [], _∷_, _++_}
 use native.Mathlib.Omega.{arith}
 use native.Mathlib.Numerals.{add-one}
-use lib.ListN.{length, getD, take, drop, set, length-append}
-use lib.Seq.{sets, sets-eq, length-sets, set-out, take-suc, take-length}
-use Rattle.common.specs.Stored.{stored, Pushed}
+use lib.ListN.{length, getD, take, drop, set, replicate, length-append, length-set, length-replicate}
+use lib.Seq.{sets, sets-eq, length-sets, length-take-le, set-out, take-suc, take-length, getD-set-same, getD-set-other}
+use Rattle.common.specs.Stored.{stored, Pushed, filled}
 
 sets-append : (l : List ℕ) (i : ℕ) (xs ys : List ℕ) → sets l i (xs ++ ys) ≡ sets (sets l i xs) (i + length xs) ys
 sets-append l i [] ys = let e : i + 0 ≡ i = omega arith in rw e
@@ -49,3 +49,36 @@ stored-whole l text h = let e : 0 + length text ≡ length text = omega arith in
 pub stored-empty : (i : ℕ) (text : List ℕ) → stored [] i text ≡ []
 stored-empty i [] = refl
 stored-empty i (x ∷ xs) = stored-empty (suc i) xs
+
+-- one number more of a list
+pub stored-more : (l : List ℕ) (at : ℕ) (vs : List ℕ) (i v : ℕ) → i < length vs → v ≡ getD vs i 0 → set (stored l at (take i vs)) (at + i) v ≡ stored l at (take (i + 1) vs)
+stored-more l at vs i v h e =
+    let n = length-take-le i vs (omega arith) in
+    rw (add-one, take-suc vs i 0 h, ← e) (sym (sets-append l at (take i vs) (v ∷ []) ∙ rw n))
+
+-- what is stored, at an index; nothing before it changes
+pub stored-off : (vs l : List ℕ) (at k : ℕ) → k < at → getD (stored l at vs) k 0 ≡ getD l k 0
+stored-off [] l at k h = refl
+stored-off (v ∷ vs) l at k h = stored-off vs (set l at v) (suc at) k (omega arith) ∙ getD-set-other l at k v 0 (λ e. let n = e in absurd (omega arith))
+
+pub stored-at : (vs l : List ℕ) (at k : ℕ) → at + length vs ≤ length l → k < length vs → getD (stored l at vs) (at + k) 0 ≡ getD vs k 0
+stored-at [] l at k f h = absurd (omega arith)
+stored-at (v ∷ vs) l at zero f h =
+    let e : at + 0 ≡ at = omega arith in
+    rw e (stored-off vs (set l at v) (suc at) at (omega arith) ∙ getD-set-same l at v 0 (omega arith))
+stored-at (v ∷ vs) l at (suc k) f h =
+    let e : at + suc k ≡ suc at + k = omega arith in
+    let n = length-set l at v in
+    rw e (stored-at vs (set l at v) (suc at) k (omega arith) (omega arith))
+
+pub stored-front : (l vs : List ℕ) (k : ℕ) → length vs ≤ length l → k < length vs → getD (stored l 0 vs) k 0 ≡ getD vs k 0
+stored-front l vs k f h = let e : 0 + k ≡ k = omega arith in rw e at (stored-at vs l 0 k (omega arith) h)
+
+-- numbers at the front of zeros
+drop-zeros : (k n : ℕ) → drop k (replicate {A = ℕ} n 0) ≡ replicate (n - k) 0
+drop-zeros zero n = let e : n - 0 ≡ n = omega arith in rw e
+drop-zeros (suc k) zero = let e : 0 - suc k ≡ 0 = omega arith in rw e
+drop-zeros (suc k) (suc n) = let e : suc n - suc k ≡ n - k = omega arith in rw e (drop-zeros k n)
+
+pub stored-zeros : (n : ℕ) (vs : List ℕ) → length vs ≤ n → stored (replicate n 0) 0 vs ≡ filled n vs
+stored-zeros n vs h = let m = length-replicate {A = ℕ} n 0 in stored-whole (replicate n 0) vs (omega arith) ∙ ap (λ (l : List ℕ). vs ++ l) (drop-zeros (length vs) n)

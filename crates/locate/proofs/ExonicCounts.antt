@@ -10,15 +10,14 @@ use Rattle.transcript.specs.Transcript.{Transcript}
 use Rattle.transcript.specs.Orient.{Interval, Oriented, oriented}
 use Rattle.transcript.specs.Bases.{size, basesIn, endAfter}
 use Rattle.locate.specs.Place.{totalCdsLength}
-use Rattle.locate.specs.Index.{indexScalars, locateIndex}
+use Rattle.locate.specs.Index.{cumulative, indexScalars}
 use Rattle.locate.specs.Exonic.{Counts, counts}
 use Rattle.transcript.proofs.Ascends.{Ascends}
 use Rattle.transcript.proofs.Cuts.{cuts-ascend, cuts-bases}
 use Rattle.transcript.proofs.Facts.{Facts}
 use Rattle.locate.proofs.Cdna.{bases-cut}
 use Rattle.transcript.proofs.Listed.{nowhere}
-use Rattle.locate.proofs.Sums.{bases-from, bases-all, starts-from}
-use Rattle.locate.proofs.Offset.{first-sum, sums-of, read-sum}
+use Rattle.locate.proofs.Sums.{bases-from, bases-all, sum-before, starts-from}
 
 -- a base of an interval is one base
 one-here : (s e p : ℕ) → s ≤ p → p < e → min e (p + 1) - max s p ≡ 1
@@ -43,7 +42,7 @@ bases-one (x ∷ xs) e (suc k) p h l a b =
 -- the counts of a base of exon i, as the code computes them from the index
 abbrev pub indexCounts : Oriented → ℕ → ℕ → ℕ → Counts
 indexCounts o p i first =
-    counts (getD (locateIndex o .«cumulative_exons») i 0 + (p - getD (o .exons) i nowhere .start))
+    counts (getD (cumulative 0 (map size (o .exons))) i 0 + (p - getD (o .exons) i nowhere .start))
     (indexScalars o .«utr5_exonic_len»)
     (indexScalars o .«utr5_exonic_len» + (indexScalars o .«total_cds_length» - indexScalars o .«cds_start_pad»))
     (indexScalars o .«cds_start_pad»)
@@ -78,8 +77,7 @@ module _ (t : Transcript) (f : Facts t) (i p first : ℕ) (l : i < length (orien
     (a : getD (oriented t .exons) i nowhere .start ≤ p) (b : p < getD (oriented t .exons) i nowhere .end) where
   pub numbers : Numbers (oriented t) p i first
   numbers =
-      let e = first-sum 0 (map size (oriented t .exons)) in
-      let r = read-sum (oriented t .exons) (locateIndex (oriented t) .«cumulative_exons») (f .order) (sums-of 0 (oriented t .exons) (omega arith)) i p l a b in
+      let r = sum-before (oriented t .exons) 0 0 i p (f .order) l a b in
       let c = coding-total t f in
       record { before = omega arith; utr5 = refl; coding-end = end _ _ _ _ c }
     where

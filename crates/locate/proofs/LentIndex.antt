@@ -26,7 +26,7 @@ use Rattle.footprint.specs.ShortIntron.{isFrameshiftGap}
 use Rattle.locate.specs.Place.{intervalIndex}
 use Rattle.common.specs.Stored.{filled}
 use Rattle.locate.specs.Index.{cumulative, indexScalars, locateIndex}
-use Rattle.locate.specs.Sums.{firstSum, Sums}
+use Rattle.locate.specs.Sums.{firstSum, Sums, ExonSums, CdsSums}
 use Rattle.locate.specs.Coded.{Coded}
 use Rattle.locate.specs.Exonic.{headOf}
 use Rattle.transcript.proofs.Ascends.{Ascends}
@@ -67,38 +67,50 @@ module _ (m : TranscriptModel) (ss es ps is gs ge bs : List ℕ) (h : admission 
   abbrev o : Oriented
   o = oriented (lent m ss es ps is gs ge bs)
 
-  pub exon-sums : filled 513 (cumulative 0 (map exonSize (exonsOf ss es))) ≡ locateIndex o .«cumulative_exons»
-  exon-sums =
-      ap (λ (ns : List ℕ). filled 513 (cumulative 0 ns)) (sym (ap (map size) (exons-are m ss es ps is gs ge bs h) ∙ sizes-turned (m .strand) (exonsOf ss es) (ad m ss es ps is gs ge bs h .edges)))
+  exon-sizes : map exonSize (exonsOf ss es) ≡ map size (o .exons)
+  exon-sizes = sym (ap (map size) (exons-are m ss es ps is gs ge bs h) ∙ sizes-turned (m .strand) (exonsOf ss es) (ad m ss es ps is gs ge bs h .edges))
 
-  pub segment-sums : (pad : ℕ) → pad ≡ padOfPhases ps → filled 513 (cumulative pad (map exonSize (exonsOf gs ge))) ≡ locateIndex o .«cumulative_cds»
-  segment-sums pad e =
-      let p = e ∙ sym (pad-is m ss es ps is gs ge bs h) in
-      let n = sym (ap (map size) (segments-are m ss es ps is gs ge bs h) ∙ sizes-turned (m .strand) (exonsOf gs ge) (ad m ss es ps is gs ge bs h .segment-edges)) in
-      λ k. filled 513 (cumulative (p k) (n k))
+  segment-sizes : map exonSize (exonsOf gs ge) ≡ map size (o .segments)
+  segment-sizes = sym (ap (map size) (segments-are m ss es ps is gs ge bs h) ∙ sizes-turned (m .strand) (exonsOf gs ge) (ad m ss es ps is gs ge bs h .segment-edges))
+
+  -- sums that were stored, from those of the lists lent
+  pub exon-sums : (sums : List ℕ) → length ss < length sums → ((k : ℕ) → k ≤ length ss → getD sums k 0 ≡ getD (cumulative 0 (map exonSize (exonsOf ss es))) k 0) → ExonSums o sums
+  exon-sums sums l e =
+      let n = count m ss es ps is gs ge bs h in
+      let f : (k : ℕ) → k ≤ length (o .exons) → getD sums k 0 ≡ getD (cumulative 0 (map size (o .exons))) k 0
+      = λ k i. e k (omega arith) ∙ ap (λ (ns : List ℕ). getD (cumulative 0 ns) k 0) exon-sizes in
+      (sums-of 0 (o .exons) sums (omega arith) f (omega arith), first-sum 0 (o .exons) sums (omega arith) f)
+
+  pub cds-sums : (pad : ℕ) → pad ≡ padOfPhases ps → (sums : List ℕ) → length gs < length sums
+      → ((k : ℕ) → k ≤ length gs → getD sums k 0 ≡ getD (cumulative pad (map exonSize (exonsOf gs ge))) k 0) → CdsSums o sums
+  cds-sums pad q sums l e =
+      let n = segment-count m ss es ps is gs ge bs h in
+      let p = q ∙ sym (pad-is m ss es ps is gs ge bs h) in
+      let f : (k : ℕ) → k ≤ length (o .segments) → getD sums k 0 ≡ getD (cumulative (o .pad) (map size (o .segments))) k 0
+      = λ k i. e k (omega arith) ∙ (λ j. getD (cumulative (p j) (segment-sizes j)) k 0) in
+      (sums-of (o .pad) (o .segments) sums (omega arith) f (pad-2 m ss es ps is gs ge bs h), first-sum (o .pad) (o .segments) sums (omega arith) f)
+
+  pub exon-array : filled 513 (cumulative 0 (map exonSize (exonsOf ss es))) ≡ locateIndex o .«cumulative_exons»
+  exon-array = ap (λ (ns : List ℕ). filled 513 (cumulative 0 ns)) exon-sizes
+
+  pub cds-array : (pad : ℕ) → pad ≡ padOfPhases ps → filled 513 (cumulative pad (map exonSize (exonsOf gs ge))) ≡ locateIndex o .«cumulative_cds»
+  cds-array pad e = let p = e ∙ sym (pad-is m ss es ps is gs ge bs h) in λ k. filled 513 (cumulative (p k) (segment-sizes k))
 
   -- the arrays
-  module _ (sums : List ℕ) (q : sums ≡ locateIndex o .«cumulative_exons») where
+  module _ (sums : List ℕ) (q : ExonSums o sums) where
     pub exonic : Sums (lentExons (m .strand) ss es) sums
-    exonic = rw (q, ← exons-are m ss es ps is gs ge bs h) (sums-of 0 (o .exons) (omega arith))
+    exonic = rw (← exons-are m ss es ps is gs ge bs h) (q .0)
 
-    pub exonic-first : firstSum sums ≡ 0
-    exonic-first = ap firstSum q ∙ first-sum 0 (map size (o .exons))
-
-  module _ (sums : List ℕ) (q : sums ≡ locateIndex o .«cumulative_cds») where
+  module _ (sums : List ℕ) (q : CdsSums o sums) where
     pub coding : Sums (lentExons (m .strand) gs ge) sums
-    coding = rw (q, ← segments-are m ss es ps is gs ge bs h) (sums-of (o .pad) (o .segments) (pad-2 m ss es ps is gs ge bs h))
-
-    pub coding-first : firstSum sums ≡ o .pad
-    coding-first = ap firstSum q ∙ first-sum (o .pad) (map size (o .segments))
+    coding = rw (← segments-are m ss es ps is gs ge bs h) (q .0)
 
     pub total : getD sums (length gs) 0 ≡ indexScalars o .«total_cds_length»
     total =
         let n = ap (λ (k : ℕ). getD sums k 0) (sym (segment-count m ss es ps is gs ge bs h)) in
-        let s : Sums (o .segments) sums = rw (segments-are m ss es ps is gs ge bs h) coding in
         let a : Ascends 0 (o .segments) = rw (segments-are m ss es ps is gs ge bs h) (ascending-exons (m .strand) 0 (exonsOf gs ge) (ad m ss es ps is gs ge bs h .segment-edges) (ad m ss es ps is gs ge bs h .segment-order)) in
-        let l = sum-last (o .segments) sums a s in
-        let f = coding-first in
+        let l = sum-last (o .segments) sums a (q .0) in
+        let f = q .1 in
         omega arith
 
     pub coded : Coded (m .strand) gs ge sums bs
@@ -119,7 +131,7 @@ module _ (m : TranscriptModel) (ss es ps is gs ge bs : List ℕ) (h : admission 
     pub codons : filled 64 (map (λ b. (firstSum sums + basesIn (lentExons (m .strand) gs ge) 0 b) / 3 + 1) (map (orientBase (m .strand)) bs)) ≡ locateIndex o .«selenocysteine_codons»
     unfolding oriented
     codons =
-        let f = coding-first in
+        let f = q .1 in
         let g = sym (segments-are m ss es ps is gs ge bs h) in
         λ k. filled 64 (map (λ b. (f k + basesIn (g k) 0 b) / 3 + 1) (map (orientBase (m .strand)) bs))
 
@@ -147,7 +159,7 @@ module _ (m : TranscriptModel) (ss es ps is gs ge bs : List ℕ) (h : admission 
       (λ c. (let l = first-holds t f c .0 in let e = count m ss es ps is gs ge bs h in let a = ad m ss es ps is gs ge bs h .few in let b = ad m ss es ps is gs ge bs h .few-segments in omega arith))
       (λ c. (let b = ad m ss es ps is gs ge bs h .few-segments in let z = first-is t f in let y = ap (λ (x : Bool). cond x (intervalIndex (o .exons) (o .cds .start)) 0) c in omega arith))
 
-  pub scalars-are : (xs ys : List ℕ) → xs ≡ locateIndex o .«cumulative_exons» → ys ≡ locateIndex o .«cumulative_cds» → (u f l : ℕ) (s : Bool)
+  pub scalars-are : (xs ys : List ℕ) → ExonSums o xs → CdsSums o ys → (u f l : ℕ) (s : Bool)
       → u ≡ cond (ltb 0 (length gs)) (firstSum xs + basesIn (lentExons (m .strand) ss es) 0 (orient (m .strand) (cdsStart (m .cds)) (cdsEnd (m .cds)) .start)) 0
       → f ≡ headOf is → l ≡ cond (ltb 0 (length gs)) (f + length gs - 1) 0 → s ≡ any isFrameshiftGap (gaps (lentExons (m .strand) ss es))
       → record {
@@ -165,11 +177,11 @@ module _ (m : TranscriptModel) (ss es ps is gs ge bs : List ℕ) (h : admission 
       let t = lent m ss es ps is gs ge bs in
       let w = known m ss es ps is gs ge bs h in
       let c = coding-is m ss es ps is gs ge bs h in
-      let p = coding-first ys qy in
+      let p = qy .1 in
       let n = sym (count m ss es ps is gs ge bs h) in
       let g = sym (segment-count m ss es ps is gs ge bs h) in
       let d = total ys qy in
-      let x : u ≡ indexScalars o .«utr5_exonic_len» = eu ∙ (λ k. cond (c k) (exonic-first xs qx k + basesIn (sym (exons-are m ss es ps is gs ge bs h) k) 0 (sym (cds-is m ss es ps is gs ge bs h) k .start)) 0) ∙ ap (λ (v : ℕ). cond (o .coding) v 0) (zero-add (basesIn (o .exons) 0 (o .cds .start))) in
+      let x : u ≡ indexScalars o .«utr5_exonic_len» = eu ∙ (λ k. cond (c k) (qx .1 k + basesIn (sym (exons-are m ss es ps is gs ge bs h) k) 0 (sym (cds-is m ss es ps is gs ge bs h) k .start)) 0) ∙ ap (λ (v : ℕ). cond (o .coding) v 0) (zero-add (basesIn (o .exons) 0 (o .cds .start))) in
       let a = ef ∙ head-is m ss es ps is gs ge bs h ∙ first-is t w in
       let z : l ≡ indexScalars o .«cds_end_exon_idx» = el ∙ ap (λ (b : Bool). cond b (f + length gs - 1) 0) c ∙ ending t w f (length gs) (ef ∙ head-is m ss es ps is gs ge bs h) g in
       let y = es′ ∙ ap (λ (v : List Interval). any isFrameshiftGap (gaps v)) (sym (exons-are m ss es ps is gs ge bs h)) in

@@ -19,3 +19,5 @@ pub mod ExonicPlace
 pub mod PlaceFacts
 pub mod PlaceCases
 pub mod VariantCases
+pub mod BasesBefore
+pub mod AloneFacts

@@ -5,7 +5,7 @@ use mathlib.Core.Path.{_≡_, sym, _∙_, ap}
 use mathlib.Core.Bool.{true, _&&_}
 use mathlib.Core.List.{List, [], _∷_, map}
 use native.Mathlib.Omega.{arith}
-use lib.ListN.{length, getD, length-map}
+use lib.ListN.{length, getD, replicate, length-map, length-append}
 use lib.Dec.{ltb}
 use borrow.Author.Tests.{lt-ltb, le-ltb, ltb-true}
 use Rattle.common.proofs.TestParts.{on-test, and-true}
@@ -16,8 +16,8 @@ use Rattle.transcript.specs.Bases.{inside, insideAny, size, basesIn, totalSize,
 use Rattle.transcript.specs.Cuts.{Cut, cutOf, meet, cuts}
 use Rattle.locate.specs.Place.{intervalIndex, cdsOffset, cdnaPosition}
 use Rattle.common.specs.Stored.{filled}
-use Rattle.locate.specs.Index.{cumulative, indexScalars}
-use Rattle.locate.specs.Sums.{firstSum, Sums}
+use Rattle.locate.specs.Index.{cumulative, indexScalars, locateIndex}
+use Rattle.locate.specs.Sums.{firstSum, Sums, ExonSums, CdsSums}
 use Rattle.transcript.proofs.Ascends.{Ascends}
 use Rattle.transcript.proofs.Cuts.{segmentsFrom, cuts-some}
 use Rattle.transcript.proofs.Orient.{inside-start, inside-end}
@@ -26,34 +26,51 @@ use Rattle.locate.proofs.Cdna.{coding-in-cds, cdna-of-offset}
 use Rattle.locate.proofs.Coding.{segments-inside}
 use Rattle.transcript.proofs.Listed.{nowhere}
 use Rattle.locate.proofs.Sums.{bases-le, sizes-le, sum-before, starts-from}
-use Rattle.locate.proofs.PrefixSums.{cumulative-first, cumulative-le, cumulative-last, filled-at}
+use Rattle.locate.proofs.PrefixSums.{cumulative-length, cumulative-first, cumulative-le, cumulative-last, filled-at}
 
--- the array of an index has the cumulative lengths that start from its first element
-pub first-sum : (first : ℕ) (ns : List ℕ) → firstSum (filled 513 (cumulative first ns)) ≡ first
-first-sum first ns = filled-at first ns 0 (omega arith) ∙ cumulative-first first ns
+-- an array that begins with cumulative lengths, from where they were stored
+module _ (first : ℕ) (xs : List Interval) (sums : List ℕ) (l : length xs < length sums)
+    (e : (k : ℕ) → k ≤ length xs → getD sums k 0 ≡ getD (cumulative first (map size xs)) k 0) where
+  pub first-sum : firstSum sums ≡ first
+  first-sum = e 0 (omega arith) ∙ cumulative-first first (map size xs)
 
-pub sums-of : (first : ℕ) (xs : List Interval) → first ≤ 2 → Sums xs (filled 513 (cumulative first (map size xs)))
-sums-of first xs l =
-    let e = first-sum first (map size xs) in
-    record { are = ap (λ (n : ℕ). filled 513 (cumulative n (map size xs))) (sym e); low = omega arith }
+  pub sums-of : first ≤ 2 → Sums xs sums
+  sums-of m =
+      let f = first-sum in
+      record { reach = l; are = λ k n. e k n ∙ ap (λ (c : ℕ). getD (cumulative c (map size xs)) k 0) (sym f); low = omega arith }
 
-module _ (xs : List Interval) (sums : List ℕ) (s : Sums xs sums) where
-  pub sum-at : (k : ℕ) → k ≤ length xs → getD sums k 0 ≡ getD (cumulative (firstSum sums) (map size xs)) k 0
-  sum-at k l =
+-- the arrays of an index begin with them
+module _ (first : ℕ) (xs : List Interval) where
+  filled-reach : length xs < length (filled 513 (cumulative first (map size xs)))
+  filled-reach =
       let n = length-map xs size in
-      ap (λ (l : List ℕ). getD l k 0) (s .are) ∙ filled-at (firstSum sums) (map size xs) k (omega arith)
+      let l = cumulative-length first (map size xs) in
+      let a = length-append (cumulative first (map size xs)) (replicate {A = ℕ} (513 - length (cumulative first (map size xs))) 0) in
+      omega arith
+
+  filled-are : (k : ℕ) → k ≤ length xs → getD (filled 513 (cumulative first (map size xs))) k 0 ≡ getD (cumulative first (map size xs)) k 0
+  filled-are k l = let n = length-map xs size in filled-at first (map size xs) k (omega arith)
+
+  pub filled-sums : first ≤ 2 → Sums xs (filled 513 (cumulative first (map size xs))) × (firstSum (filled 513 (cumulative first (map size xs))) ≡ first)
+  filled-sums l = (sums-of first xs (filled 513 (cumulative first (map size xs))) filled-reach filled-are l, first-sum first xs (filled 513 (cumulative first (map size xs))) filled-reach filled-are)
+
+pub index-exons : (o : Oriented) → ExonSums o (locateIndex o .«cumulative_exons»)
+index-exons o = filled-sums 0 (o .exons) (omega arith)
+
+pub index-cds : (o : Oriented) → o .pad ≤ 2 → CdsSums o (locateIndex o .«cumulative_cds»)
+index-cds o l = filled-sums (o .pad) (o .segments) l
 
 module _ (xs : List Interval) (sums : List ℕ) (h : Ascends 0 xs) (s : Sums xs sums) where
   -- a base of interval k: what the array has at k and the place in the interval are the bases before it
   pub read-sum : (k p : ℕ) → k < length xs → getD xs k nowhere .start ≤ p → p < getD xs k nowhere .end
       → getD sums k 0 + (p - getD xs k nowhere .start) ≡ firstSum sums + basesIn xs 0 p
-  read-sum k p l a b = ap (λ (c : ℕ). c + (p - getD xs k nowhere .start)) (sum-at xs sums s k (omega arith)) ∙ sum-before xs 0 (firstSum sums) k p h l a b
+  read-sum k p l a b = ap (λ (c : ℕ). c + (p - getD xs k nowhere .start)) (s .are k (omega arith)) ∙ sum-before xs 0 (firstSum sums) k p h l a b
 
   -- what is read can be added to
   pub sum-low : lastEnd xs ≤ top → (k : ℕ) → k ≤ length xs → getD sums k 0 ≤ 2 + top
   sum-low e k l =
       let n = length-map xs size in
-      let a = sum-at xs sums s k l in
+      let a = s .are k l in
       let b = cumulative-le (firstSum sums) (map size xs) k (omega arith) in
       let c = sizes-le xs 0 h in
       let d = s .low in
@@ -63,7 +80,7 @@ module _ (xs : List Interval) (sums : List ℕ) (h : Ascends 0 xs) (s : Sums xs 
   pub sum-last : getD sums (length xs) 0 ≡ firstSum sums + totalSize xs
   sum-last =
       let n = length-map xs size in
-      sum-at xs sums s (length xs) (omega arith) ∙ ap (λ (k : ℕ). getD (cumulative (firstSum sums) (map size xs)) k 0) (sym n) ∙ cumulative-last (firstSum sums) (map size xs)
+      s .are (length xs) (omega arith) ∙ ap (λ (k : ℕ). getD (cumulative (firstSum sums) (map size xs)) k 0) (sym n) ∙ cumulative-last (firstSum sums) (map size xs)
 
 -- the cDNA position of a coding base, from the index and its padded offset; what the code needs to subtract and to add
 pub record CdnaOf (o : Oriented) (p : ℕ) : Type 0 where

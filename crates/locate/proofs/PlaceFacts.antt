@@ -3,7 +3,7 @@
 use Prim.Native.Nat.{ℕ, _+_, _-_, _≤_, _<_}
 use mathlib.Core.Path.{_≡_, sym, _∙_, ap}
 use mathlib.Core.Bool.{Bool}
-use mathlib.Core.List.{List}
+use mathlib.Core.List.{List, map}
 use native.Mathlib.Omega.{arith}
 use lib.ListN.{length, getD}
 use lib.Dec.{ltb}
@@ -11,16 +11,17 @@ use Rattle.transcript.specs.declared.TranscriptModel.{TranscriptModel}
 use Rattle.transcript.specs.Limits.{top}
 use Rattle.transcript.specs.Transcript.{lent, cdsStart, cdsEnd}
 use Rattle.transcript.specs.Orient.{Interval, interval, orient, oriented}
-use Rattle.transcript.specs.Bases.{lastEnd}
+use Rattle.transcript.specs.Bases.{size, lastEnd}
 use Rattle.transcript.specs.Admission.{admission}
 use Rattle.locate.specs.declared.IndexScalars.{IndexScalars}
-use Rattle.locate.specs.Index.{indexScalars, locateIndex}
+use Rattle.locate.specs.Index.{cumulative, indexScalars}
+use Rattle.locate.specs.Sums.{ExonSums}
 use Rattle.locate.specs.Place.{isExonicSpliceRegion, exonic}
 use Rattle.locate.specs.Search.{Holds}
 use Rattle.locate.specs.Exonic.{Counts, counts, exonicOf, Countable}
 use Rattle.transcript.proofs.Listed.{nowhere}
 use Rattle.locate.proofs.Searching.{end-at, end-top}
-use Rattle.locate.proofs.Offset.{sums-of, sum-low}
+use Rattle.locate.proofs.Offset.{sum-low}
 use Rattle.locate.proofs.CodingExons.{firstExon, first-is}
 use Rattle.locate.proofs.ExonicCounts.{indexCounts}
 use Rattle.locate.proofs.ExonicPlace.{countable, exonic-same}
@@ -42,7 +43,7 @@ module _ (m : TranscriptModel) (ss es ps is gs ge bs : List ℕ) (h : admission 
   top-end : lastEnd (oriented (lent m ss es ps is gs ge bs) .exons) ≤ top
   top-end = known m ss es ps is gs ge bs h .high
 
-  module _ (x : IndexScalars) (sums : List ℕ) (q : x ≡ indexScalars (oriented (lent m ss es ps is gs ge bs))) (qs : sums ≡ locateIndex (oriented (lent m ss es ps is gs ge bs)) .«cumulative_exons») where
+  module _ (x : IndexScalars) (sums : List ℕ) (q : x ≡ indexScalars (oriented (lent m ss es ps is gs ge bs))) (qs : ExonSums (oriented (lent m ss es ps is gs ge bs)) sums) where
     pub pad-fits : x .«cds_start_pad» ≤ x .«total_cds_length»
     pad-fits = rw q (omega arith)
 
@@ -60,12 +61,18 @@ module _ (m : TranscriptModel) (ss es ps is gs ge bs : List ℕ) (h : admission 
       pub read-low : getD sums i 0 ≤ 2 + top
       read-low =
           let l = d .index in
-          rw qs (sum-low (oriented (lent m ss es ps is gs ge bs) .exons) _ (known m ss es ps is gs ge bs h .order) (sums-of 0 (oriented (lent m ss es ps is gs ge bs) .exons) (omega arith)) top-end i (omega arith))
+          sum-low (oriented (lent m ss es ps is gs ge bs) .exons) sums (known m ss es ps is gs ge bs h .order) (qs .0) top-end i (omega arith)
+
+      pub in-reach : i < length sums
+      in-reach = let l = d .index in let r = qs .0 .reach in omega arith
 
       codes : (before : ℕ) → before ≡ getD sums i 0 + (p - start) → codeCounts x before ≡ indexCounts (oriented (lent m ss es ps is gs ge bs)) p i (firstExon (lent m ss es ps is gs ge bs))
       codes before e =
-          let w : before ≡ getD (locateIndex (oriented (lent m ss es ps is gs ge bs)) .«cumulative_exons») i 0 + (p - getD (oriented (lent m ss es ps is gs ge bs) .exons) i nowhere .start)
-          = e ∙ (λ k. getD (qs k) i 0 + (p - d .start-is k)) in
+          let l = d .index in
+          let s : getD sums i 0 ≡ getD (cumulative 0 (map size (oriented (lent m ss es ps is gs ge bs) .exons))) i 0
+          = qs .0 .are i (omega arith) ∙ ap (λ (n : ℕ). getD (cumulative n (map size (oriented (lent m ss es ps is gs ge bs) .exons))) i 0) (qs .1) in
+          let w : before ≡ getD (cumulative 0 (map size (oriented (lent m ss es ps is gs ge bs) .exons))) i 0 + (p - getD (oriented (lent m ss es ps is gs ge bs) .exons) i nowhere .start)
+          = e ∙ (λ k. s k + (p - d .start-is k)) in
           (λ k. codeCounts (q k) (w k)) ∙ ap (indexCounts (oriented (lent m ss es ps is gs ge bs)) p i) (sym (first-is (lent m ss es ps is gs ge bs) (known m ss es ps is gs ge bs h)))
 
       module _ (a b before : ℕ) (ea : a ≡ orient (m .strand) (cdsStart (m .cds)) (cdsEnd (m .cds)) .start) (eb : b ≡ orient (m .strand) (cdsStart (m .cds)) (cdsEnd (m .cds)) .end) (f : before ≡ getD sums i 0 + (p - start)) where

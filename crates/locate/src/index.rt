@@ -3,7 +3,7 @@ use super::IndexScalars;
 use super::LocateIndex;
 use super::exonic::first_index;
 use super::positions::utr5_length;
-use super::prefix_sums::cumulative_of;
+use super::prefix_sums::store_sums;
 use super::selenocysteine::selenocysteine_codons;
 use footprint::has_frameshift_intron;
 use transcript::TranscriptModel;
@@ -19,7 +19,12 @@ ghost use Rattle.transcript.specs.Limits.{maxExons};
 ghost use Rattle.transcript.specs.Transcript.{lent};
 ghost use Rattle.transcript.specs.Orient.{oriented};
 ghost use Rattle.transcript.specs.Admission.{admission};
+ghost use Rattle.common.specs.Lists.{any};
+ghost use Rattle.transcript.specs.Bases.{gaps};
+ghost use Rattle.transcript.specs.Lent.{lentExons};
+ghost use Rattle.footprint.specs.ShortIntron.{isFrameshiftGap};
 ghost use Rattle.locate.specs.Index.{indexScalars, locateIndex};
+ghost use Rattle.locate.specs.Sums.{ExonSums, CdsSums};
 
 // The exon of the last coding base, from that of the first: each exon from the first to the last has a segment.
 pub(crate) fn last_exon(first: u16, segments: usize) -> u16
@@ -32,8 +37,8 @@ pub(crate) fn last_exon(first: u16, segments: usize) -> u16
     first + (segments - 1) as u16
 }
 
-// The scalars of the index of an admitted transcript, from its cumulative lengths.
-pub(crate) fn scalars_of(
+// The scalars of the index of an admitted transcript, from its cumulative lengths and whether it has a short intron.
+pub fn scalars_of(
     model: TranscriptModel,
     exon_starts: &[u64],
     exon_ends: &[u64],
@@ -42,11 +47,13 @@ pub(crate) fn scalars_of(
     seg_starts: &[u64],
     seg_ends: &[u64],
     selenocysteine: &[u64],
-    cumulative_exons: &[u32; 513],
-    cumulative_cds: &[u32; 513],
+    cumulative_exons: &[u32],
+    cumulative_cds: &[u32],
+    short: bool,
 ) -> IndexScalars
     requires { ⌜ admission (lent model (now «exon_starts») (now «exon_ends») (now «seg_phases») (now «seg_exons») (now «seg_starts») (now «seg_ends») (now selenocysteine)) ≡ 0 ⌝ }
-    requires { ⌜ (now «cumulative_exons» ≡ locateIndex (oriented (lent model (now «exon_starts») (now «exon_ends») (now «seg_phases») (now «seg_exons») (now «seg_starts») (now «seg_ends») (now selenocysteine))) .«cumulative_exons») × (now «cumulative_cds» ≡ locateIndex (oriented (lent model (now «exon_starts») (now «exon_ends») (now «seg_phases») (now «seg_exons») (now «seg_starts») (now «seg_ends») (now selenocysteine))) .«cumulative_cds») ⌝ }
+    requires { ⌜ ExonSums (oriented (lent model (now «exon_starts») (now «exon_ends») (now «seg_phases») (now «seg_exons») (now «seg_starts») (now «seg_ends») (now selenocysteine))) (now «cumulative_exons») × CdsSums (oriented (lent model (now «exon_starts») (now «exon_ends») (now «seg_phases») (now «seg_exons») (now «seg_starts») (now «seg_ends») (now selenocysteine))) (now «cumulative_cds») ⌝ }
+    requires { ⌜ short ≡ any isFrameshiftGap (gaps (lentExons (model .strand) (now «exon_starts») (now «exon_ends»))) ⌝ }
     ensures { λ r. ⌜ r ≡ indexScalars (oriented (lent model (now («exon_starts» .entry)) (now («exon_ends» .entry)) (now («seg_phases» .entry)) (now («seg_exons» .entry)) (now («seg_starts» .entry)) (now («seg_ends» .entry)) (now (selenocysteine .entry)))) ⌝ }
 {
     let strand = model.strand;
@@ -72,7 +79,7 @@ pub(crate) fn scalars_of(
         ),
         cds_start_exon_idx: first,
         cds_end_exon_idx: last_exon(first, count),
-        has_frameshift_intron: has_frameshift_intron(exon_starts, exon_ends, strand),
+        has_frameshift_intron: short,
         selenocysteine_count: selenocysteine.len(),
     }
 }
@@ -93,10 +100,10 @@ pub fn index_of(
 {
     let strand = model.strand;
     let pad = pad_of(seg_phases) as u32;
-    let exonic = cumulative_of(exon_starts, exon_ends, 0);
-    let coding = cumulative_of(seg_starts, seg_ends, pad);
-    let cumulative_exons = exonic.sums;
-    let cumulative_cds = coding.sums;
+    let mut cumulative_exons = [0u32; 513];
+    let mut cumulative_cds = [0u32; 513];
+    store_sums(&mut cumulative_exons, 0, exon_starts, exon_ends, 0);
+    store_sums(&mut cumulative_cds, 0, seg_starts, seg_ends, pad);
     let scalars = scalars_of(
         model,
         exon_starts,
@@ -108,6 +115,7 @@ pub fn index_of(
         selenocysteine,
         &cumulative_exons,
         &cumulative_cds,
+        has_frameshift_intron(exon_starts, exon_ends, strand),
     );
     let codons = selenocysteine_codons(
         seg_starts,

@@ -1,9 +1,11 @@
 // Where a base lies in a transcript: the answers' types, the index and the questions.
 
+mod alone;
 mod build;
 mod exonic;
 mod index;
 mod intronic;
+mod lengths;
 pub mod place;
 mod positions;
 mod prefix_sums;
@@ -12,7 +14,11 @@ mod selenocysteine;
 mod variant;
 
 pub use index::index_of;
+pub use index::scalars_of;
 pub use positions::cdna_position;
+pub use prefix_sums::store_sums;
+pub use search::started;
+pub use selenocysteine::selenocysteine_codons;
 use transcript::Admission;
 pub use variant::locate_variant;
 
@@ -91,11 +97,6 @@ pub enum ExonOrIntron {
 pub struct CdsOffset(pub u32);
 
 pub struct CdnaPosition(pub u32);
-
-// Lengths summed up: before each of up to 512 intervals and after the last, then zeros.
-pub struct Cumulative {
-    pub sums: [u32; 513],
-}
 
 // Codon numbers of up to 64 bases, then zeros.
 pub struct CodonNumbers {

@@ -20,7 +20,8 @@ ghost use Rattle.footprint.specs.Ranges.{sourceRanges};
 ghost use Rattle.transcript.specs.Transcript.{lent};
 ghost use Rattle.transcript.specs.Orient.{interval, oriented};
 ghost use Rattle.transcript.specs.Admission.{admission};
-ghost use Rattle.locate.specs.Index.{indexScalars, locateIndex};
+ghost use Rattle.locate.specs.Index.{indexScalars};
+ghost use Rattle.locate.specs.Sums.{ExonSums};
 ghost use Rattle.locate.specs.Place.{isExonicSpliceRegion, exonic, locate};
 ghost use Rattle.locate.specs.Search.{Holds, upstreamBy, downstreamBy};
 
@@ -53,14 +54,14 @@ pub(crate) fn exon_base(
     seg_ends: &[u64],
     selenocysteine: &[u64],
     scalars: IndexScalars,
-    cumulative_exons: &[u32; 513],
+    cumulative_exons: &[u32],
     i: usize,
     start: u64,
     end: u64,
     p: u64,
 ) -> VariantLocation
     requires { ⌜ admission (lent model (now «exon_starts») (now «exon_ends») (now «seg_phases») (now «seg_exons») (now «seg_starts») (now «seg_ends») (now selenocysteine)) ≡ 0 ⌝ }
-    requires { ⌜ (scalars ≡ indexScalars (oriented (lent model (now «exon_starts») (now «exon_ends») (now «seg_phases») (now «seg_exons») (now «seg_starts») (now «seg_ends») (now selenocysteine)))) × (now «cumulative_exons» ≡ locateIndex (oriented (lent model (now «exon_starts») (now «exon_ends») (now «seg_phases») (now «seg_exons») (now «seg_starts») (now «seg_ends») (now selenocysteine))) .«cumulative_exons») ⌝ }
+    requires { ⌜ (scalars ≡ indexScalars (oriented (lent model (now «exon_starts») (now «exon_ends») (now «seg_phases») (now «seg_exons») (now «seg_starts») (now «seg_ends») (now selenocysteine)))) × ExonSums (oriented (lent model (now «exon_starts») (now «exon_ends») (now «seg_phases») (now «seg_exons») (now «seg_starts») (now «seg_ends») (now selenocysteine))) (now «cumulative_exons») ⌝ }
     requires { ⌜ Holds (oriented (lent model (now «exon_starts») (now «exon_ends») (now «seg_phases») (now «seg_exons») (now «seg_starts») (now «seg_ends») (now selenocysteine))) i start end p ⌝ }
     ensures { λ r. ⌜ r ≡ exonic (oriented (lent model (now («exon_starts» .entry)) (now («exon_ends» .entry)) (now («seg_phases» .entry)) (now («seg_exons» .entry)) (now («seg_starts» .entry)) (now («seg_ends» .entry)) (now (selenocysteine .entry)))) p i (isExonicSpliceRegion (length (oriented (lent model (now («exon_starts» .entry)) (now («exon_ends» .entry)) (now («seg_phases» .entry)) (now («seg_exons» .entry)) (now («seg_starts» .entry)) (now («seg_ends» .entry)) (now (selenocysteine .entry))) .exons)) i (interval start end) p) ⌝ }
 {
@@ -102,11 +103,11 @@ pub fn place_of_base(
     seg_ends: &[u64],
     selenocysteine: &[u64],
     scalars: IndexScalars,
-    cumulative_exons: &[u32; 513],
+    cumulative_exons: &[u32],
     p: u64,
 ) -> VariantLocation
     requires { ⌜ admission (lent model (now «exon_starts») (now «exon_ends») (now «seg_phases») (now «seg_exons») (now «seg_starts») (now «seg_ends») (now selenocysteine)) ≡ 0 ⌝ }
-    requires { ⌜ (scalars ≡ indexScalars (oriented (lent model (now «exon_starts») (now «exon_ends») (now «seg_phases») (now «seg_exons») (now «seg_starts») (now «seg_ends») (now selenocysteine)))) × (now «cumulative_exons» ≡ locateIndex (oriented (lent model (now «exon_starts») (now «exon_ends») (now «seg_phases») (now «seg_exons») (now «seg_starts») (now «seg_ends») (now selenocysteine))) .«cumulative_exons») ⌝ }
+    requires { ⌜ (scalars ≡ indexScalars (oriented (lent model (now «exon_starts») (now «exon_ends») (now «seg_phases») (now «seg_exons») (now «seg_starts») (now «seg_ends») (now selenocysteine)))) × ExonSums (oriented (lent model (now «exon_starts») (now «exon_ends») (now «seg_phases») (now «seg_exons») (now «seg_starts») (now «seg_ends») (now selenocysteine))) (now «cumulative_exons») ⌝ }
     requires { ⌜ p ≤ top ⌝ }
     ensures { λ r. ⌜ r ≡ locate sourceRanges (oriented (lent model (now («exon_starts» .entry)) (now («exon_ends» .entry)) (now («seg_phases» .entry)) (now («seg_exons» .entry)) (now («seg_starts» .entry)) (now («seg_ends» .entry)) (now (selenocysteine .entry)))) p ⌝ }
 {

@@ -17,8 +17,8 @@ ghost use Rattle.locate.specs.Search.{Ready};
 ghost use Rattle.locate.specs.Sums.{firstSum, Sums};
 
 // The sum at i and the bases from `start` to p.
-pub(crate) fn offset_at(sums: &[u32; 513], i: usize, start: u64, p: u64) -> u32
-    requires { ⌜ (i < 513) × (getD (now sums) i 0 ≤ 2 + top) × (start ≤ p) × (p ≤ top) ⌝ }
+pub(crate) fn offset_at(sums: &[u32], i: usize, start: u64, p: u64) -> u32
+    requires { ⌜ (i < length (now sums)) × (getD (now sums) i 0 ≤ 2 + top) × (start ≤ p) × (p ≤ top) ⌝ }
     ensures { λ r. ⌜ r ≡ getD (now (sums .entry)) i 0 + (p - start) ⌝ }
 {
     sums[i] + (p - start) as u32
@@ -29,7 +29,7 @@ pub(crate) fn cds_offset_of(
     starts: &[u64],
     ends: &[u64],
     strand: Strand,
-    sums: &[u32; 513],
+    sums: &[u32],
     p: u64,
 ) -> CdsOffset
     requires { ⌜ Ready strand (now starts) (now ends) ⌝ }
@@ -51,7 +51,7 @@ pub(crate) fn utr5_length(
     starts: &[u64],
     ends: &[u64],
     strand: Strand,
-    sums: &[u32; 513],
+    sums: &[u32],
     first: usize,
     from: u64,
 ) -> u32

@@ -12,7 +12,7 @@ ghost use Rattle.transcript.specs.Lent.{lentExons};
 ghost use Rattle.locate.specs.Search.{Ready, Started, exonOrIntron, FoundAt};
 
 // How many exons start at or before p, an oriented coordinate.
-pub(crate) fn started(starts: &[u64], ends: &[u64], strand: Strand, p: u64) -> usize
+pub fn started(starts: &[u64], ends: &[u64], strand: Strand, p: u64) -> usize
     requires { ⌜ Ready strand (now starts) (now ends) ⌝ }
     ensures { λ r. ⌜ (r ≤ length (now (starts .entry))) × Started (lentExons strand (now (starts .entry)) (now (ends .entry))) p r ⌝ }
 {

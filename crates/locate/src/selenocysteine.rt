@@ -14,11 +14,11 @@ ghost use Rattle.common.specs.Stored.{filled};
 ghost use Rattle.locate.specs.Coded.{Coded};
 
 // The codon number of each selenocysteine base.
-pub(crate) fn selenocysteine_codons(
+pub fn selenocysteine_codons(
     starts: &[u64],
     ends: &[u64],
     strand: Strand,
-    sums: &[u32; 513],
+    sums: &[u32],
     bases: &[u64],
 ) -> CodonNumbers
     requires { ⌜ Coded strand (now starts) (now ends) (now sums) (now bases) ⌝ }

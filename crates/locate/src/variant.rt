@@ -1,7 +1,6 @@
 // The question of a place: its refusals, then the place of its first base.
 use super::Located;
-use super::index::index_of;
-use super::place::place_of_base;
+use super::alone::place_alone;
 use transcript::Admission;
 use transcript::TranscriptModel;
 use transcript::admit;
@@ -49,21 +48,9 @@ pub fn locate_variant(
     if chromosome != model.chromosome {
         return Located::Refused(14);
     }
-    let index = index_of(
-        model,
-        exon_starts,
-        exon_ends,
-        seg_phases,
-        seg_exons,
-        seg_starts,
-        seg_ends,
-        selenocysteine,
-    );
-    let scalars = index.scalars;
-    let cumulative_exons = index.cumulative_exons;
     let strand = model.strand;
     let p = base_of(strand, start);
-    let place = place_of_base(
+    let place = place_alone(
         model,
         exon_starts,
         exon_ends,
@@ -72,8 +59,6 @@ pub fn locate_variant(
         seg_starts,
         seg_ends,
         selenocysteine,
-        scalars,
-        &cumulative_exons,
         p,
     );
     Located::At(place)

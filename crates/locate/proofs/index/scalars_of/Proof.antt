@@ -8,7 +8,7 @@ use denote.Ref.{now}
 use Rattle.transcript.specs.declared.TranscriptModel.{TranscriptModel}
 use Rattle.transcript.specs.Transcript.{cdsStart, cdsEnd}
 use Rattle.transcript.specs.Orient.{orient}
-use Rattle.locate.proofs.LentTranscript.{ad, ready, head-is}
+use Rattle.locate.proofs.LentTranscript.{ad, ready, segment-count, head-is}
 use Rattle.locate.proofs.LentIndex.{exonic, first-holding, last-bound, scalars-are}
 use borrow.Author.Needs.{needs}
 use Rattle.locate.proofs.index.scalars_of.Statement.{statement}
@@ -31,25 +31,26 @@ end-or-zero-requires c κs = search needs
 
 start-of-requires : tie.Need-start-of-requires
 start-of-requires c κs =
-    let b = c .before .before .before .before .before .before .before .before .before .before in
+    let b = c .before .before .before .before .before .before .before .before .before .before .before .before in
     let l = on b ad (b .pre .0) .cds-end in
     let e = c .end-or-zero .ensures in
     omega arith
 
 -- the first coding base
-from : (c : tie.After-start-of) → let b = c .before .before .before .before .before .before .before .before .before .before .before in c .start-of .result ≡ orient (b .args .model .strand) (cdsStart (b .args .model .cds)) (cdsEnd (b .args .model .cds)) .start
+from : (c : tie.After-start-of) → let b = c .before .before .before .before .before .before .before .before .before .before .before .before .before in c .start-of .result ≡ orient (b .args .model .strand) (cdsStart (b .args .model .cds)) (cdsEnd (b .args .model .cds)) .start
 from c = rw (c .before .before .start-or-zero .ensures, c .before .end-or-zero .ensures) at (c .start-of .ensures)
 
-element-copy-out-t20 : tie.Need-element-copy-out-t20
-element-copy-out-t20 c = search needs
+shared-slice-read-t20 : tie.Need-shared-slice-read-t20
+shared-slice-read-t20 c = search needs
 
 mul-t22 : tie.Need-mul-t22
 mul-t22 c = search needs
 
-element-copy-out-t25 : tie.Need-element-copy-out-t25
-element-copy-out-t25 c =
-    let b = c .before .before .before .before .before .before .before .before .before .before .before .before in
-    let l = on b ad (b .pre .0) .few-segments in
+shared-slice-read-t24 : tie.Need-shared-slice-read-t24
+shared-slice-read-t24 c =
+    let b = c .before .before .before .before .before .before .before .before .before .before .before .before .before .before .before in
+    let l = on b segment-count (b .pre .0) in
+    let r = b .pre .1 .0 .1 .0 .reach in
     omega arith
 
 cast-utr5-length : tie.Need-cast-utr5-length
@@ -57,30 +58,27 @@ cast-utr5-length c = search needs
 
 utr5-length-requires : tie.Need-utr5-length-requires
 utr5-length-requires c κs =
-    let b = c .before .before .before .before .before .before .before .before .before .before .before .before .before in (
+    let b = c .before .before .before .before .before .before .before .before .before .before .before .before .before .before .before in (
       on b ready (b .pre .0),
       (
-        on b exonic (b .pre .0) (now (b .args .cumulative-exons)) (b .pre .1 .0),
+        on b exonic (b .pre .0) (now (b .args .cumulative-exons)) (b .pre .1 .0 .0),
         on b first-holding (b .pre .0) (c .before .before .before .before .before .first-index .result) (c .before .before .start-of .result) (c .before .before .before .before .before .first-index .ensures) (from (c .before .before)),
       ),
     )
 
 last-exon-requires : tie.Need-last-exon-requires
 last-exon-requires c κs =
-    let b = c .before .before .before .before .before .before .before .before .before .before .before .before .before .before in
+    let b = c .before .before .before .before .before .before .before .before .before .before .before .before .before .before .before .before in
     let l = on b last-bound (b .pre .0) in
     let e = on b head-is (b .pre .0) in
     let f = c .before .before .before .before .before .before .first-index .ensures in
     (omega arith, on b ad (b .pre .0) .few-segments)
 
-has-frameshift-intron-requires : tie.Need-has-frameshift-intron-requires
-has-frameshift-intron-requires c κs = let b = c .before .before .before .before .before .before .before .before .before .before .before .before .before .before .before in let k = on b ad (b .pre .0) in (k .even, k .edges)
-
 returns : tie.Need-returns
 returns c =
-    let b = c .before .before .before .before .before .before .before .before .before .before .before .before .before .before .before .before in
-    on b scalars-are (b .pre .0) (now (b .args .cumulative-exons)) (now (b .args .cumulative-cds)) (b .pre .1 .0) (b .pre .1 .1) (c .before .before .utr5-length .result) (c .before .before .before .before .before .before .before .before .first-index .result) (c .before .last-exon .result) (c .has-frameshift-intron .result)
-    (rw (from (c .before .before .before .before .before)) at (c .before .before .utr5-length .ensures)) (c .before .before .before .before .before .before .before .before .first-index .ensures) (c .before .last-exon .ensures) (c .has-frameshift-intron .ensures)
+    let b = c .before .before .before .before .before .before .before .before .before .before .before .before .before .before .before .before .before in
+    on b scalars-are (b .pre .0) (now (b .args .cumulative-exons)) (now (b .args .cumulative-cds)) (b .pre .1 .0 .0) (b .pre .1 .0 .1) (c .before .utr5-length .result) (c .before .before .before .before .before .before .before .first-index .result) (c .last-exon .result) (b .args .short)
+    (rw (from (c .before .before .before .before)) at (c .before .utr5-length .ensures)) (c .before .before .before .before .before .before .before .first-index .ensures) (c .last-exon .ensures) (b .pre .1 .1)
 
 pub scalars-of-spec : {M : Type 1} → statement M
 scalars-of-spec =
@@ -90,11 +88,10 @@ scalars-of-spec =
     start-or-zero-requires
     end-or-zero-requires
     start-of-requires
-    element-copy-out-t20
+    shared-slice-read-t20
     mul-t22
-    element-copy-out-t25
+    shared-slice-read-t24
     cast-utr5-length
     utr5-length-requires
     last-exon-requires
-    has-frameshift-intron-requires
     returns)

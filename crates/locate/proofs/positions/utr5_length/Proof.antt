@@ -15,48 +15,48 @@ use Rattle.locate.proofs.positions.utr5_length.Statement.{statement}
 use Rattle.locate.proofs.positions.utr5_length.Tie as tie
 
 -- where there is a CDS: exon `first` holds its first base
-held : (c : tie.Else1) → let b = c .before .before .before in
+held : (c : tie.Else1) → let b = c .before .before .before .before in
     (b .args .first < length (now (b .args .starts)))
     × (getD (lentExons (b .args .strand) (now (b .args .starts)) (now (b .args .ends))) (b .args .first) nowhere .start ≤ b .args .from)
     × (b .args .from < getD (lentExons (b .args .strand) (now (b .args .starts)) (now (b .args .ends))) (b .args .first) nowhere .end)
 held c =
-    let b = c .before .before .before in
+    let b = c .before .before .before .before in
     let x = b .pre .1 .1 (not-false (b .args .coding) (c .if1 .left)) in
     let g = getD (lentExons (b .args .strand) (now (b .args .starts)) (now (b .args .ends))) (b .args .first) nowhere in
     (x .0, inside-start (b .args .from) g (x .1), inside-end (b .args .from) g (x .1))
 
 returns : tie.Need-returns
-returns c = rw (not-true (c .before .before .before .args .coding) (c .if1 .taken))
+returns c = rw (not-true (c .before .before .before .before .args .coding) (c .if1 .taken))
 
 mul-s : tie.Need-mul-s
-mul-s c = let l = held c .0 in let f = c .before .before .before .pre .0 .few in omega arith
+mul-s c = let l = held c .0 in let f = c .before .before .before .before .pre .0 .few in omega arith
 
 shared-slice-read-s : tie.Need-shared-slice-read-s
 shared-slice-read-s c = held (c .before) .0
 
 mul-e : tie.Need-mul-e
-mul-e c = let l = held (c .before) .0 in let f = c .before .before .before .before .pre .0 .few in omega arith
+mul-e c = let l = held (c .before) .0 in let f = c .before .before .before .before .before .pre .0 .few in omega arith
 
 shared-slice-read-e : tie.Need-shared-slice-read-e
-shared-slice-read-e c = let l = held (c .before .before) .0 in let e = c .before .before .before .before .before .pre .0 .even in omega arith
+shared-slice-read-e c = let l = held (c .before .before) .0 in let e = c .before .before .before .before .before .before .pre .0 .even in omega arith
 
 start-of-requires : tie.Need-start-of-requires
 start-of-requires c κs =
-    let b = c .before .before .before .before .before in
+    let b = c .before .before .before .before .before .before in
     end-low (b .args .strand) (now (b .args .starts)) (now (b .args .ends)) (b .pre .0) (b .args .first) (held (c .before .before) .0)
 
 -- what `start_of` gives is the start of the exon
-starts : (c : tie.After-start-of) → let b = c .before .before .before .before .before .before in
+starts : (c : tie.After-start-of) → let b = c .before .before .before .before .before .before .before in
     c .start-of .result ≡ getD (lentExons (b .args .strand) (now (b .args .starts)) (now (b .args .ends))) (b .args .first) nowhere .start
 starts c =
-    let b = c .before .before .before .before .before .before in
+    let b = c .before .before .before .before .before .before .before in
     c .start-of .ensures ∙ sym (start-at (b .args .strand) (now (b .args .starts)) (now (b .args .ends)) (b .pre .0) (b .args .first) (held (c .before .before .before) .0))
 
 offset-at-requires : tie.Need-offset-at-requires
 offset-at-requires c κs =
-    let b = c .before .before .before .before .before .before in
+    let b = c .before .before .before .before .before .before .before in
     let h = held (c .before .before .before) in
-    let f = b .pre .0 .few in
+    let f = b .pre .1 .0 .reach in
     let l = h .0 in let s = h .1 in let t = h .2 in
     let q = starts c in
     let n = count (b .args .strand) (now (b .args .starts)) (now (b .args .ends)) (b .pre .0) in
@@ -71,7 +71,7 @@ offset-at-requires c κs =
 
 returns-2 : tie.Need-returns-2
 returns-2 c =
-    let b = c .before .before .before .before .before .before .before in
+    let b = c .before .before .before .before .before .before .before .before in
     let h = held (c .before .before .before .before) in
     let l = h .0 in
     let n = count (b .args .strand) (now (b .args .starts)) (now (b .args .ends)) (b .pre .0) in

@@ -41,13 +41,13 @@ shared-slice-read-b c = omega arith
 
 base-of-requires : tie.Need-base-of-requires Inv-loop μ-loop
 base-of-requires c κs =
-    let b = c .before .before .before .before .before .before in
+    let b = c .before .before .before .before .before .before .before in
     let l = base-low (now (b .args .bases)) (c .before .before .loop .i) (b .pre .bases-low) (omega arith) in
     omega arith
 
 cds-offset-of-requires : tie.Need-cds-offset-of-requires Inv-loop μ-loop
 cds-offset-of-requires c κs =
-    let b = c .before .before .before .before .before .before .before in
+    let b = c .before .before .before .before .before .before .before .before in
     let i = c .before .before .before .loop .i in
     let x : insideAny (c .base-of .result) (lentExons (b .args .strand) (now (b .args .starts)) (now (b .args .ends))) ≡ true
     = rw (c .base-of .ensures) (base-inside (b .args .strand) (now (b .args .starts)) (now (b .args .ends)) (now (b .args .sums)) (now (b .args .bases)) (b .pre) i (omega arith)) in
@@ -57,10 +57,10 @@ add-numbers : tie.Need-add-numbers Inv-loop μ-loop
 add-numbers c = omega arith
 
 mul-numbers : tie.Need-mul-numbers Inv-loop μ-loop
-mul-numbers c = let f = c .before .before .before .before .before .before .before .before .before .pre .few-bases in omega arith
+mul-numbers c = let f = c .before .before .before .before .before .before .before .before .before .before .pre .few-bases in omega arith
 
 array-write-numbers : tie.Need-array-write-numbers Inv-loop μ-loop
-array-write-numbers c = let f = c .before .before .before .before .before .before .before .before .before .pre .few-bases in omega arith
+array-write-numbers c = let f = c .before .before .before .before .before .before .before .before .before .before .pre .few-bases in omega arith
 
 add-i : tie.Need-add-i Inv-loop μ-loop
 add-i c = omega arith
@@ -70,7 +70,7 @@ loop-less c = omega arith
 
 loop-again : tie.Need-loop-again Inv-loop μ-loop
 loop-again c =
-    let b = c .before .before .before .before .before .before .before .before .before in
+    let b = c .before .before .before .before .before .before .before .before .before .before in
     let l = c .before .before .before .before .before .loop in
     let f = b .pre .few-bases in
     let vs = numbersOf (b .args .strand) (now (b .args .starts)) (now (b .args .ends)) (now (b .args .sums)) (now (b .args .bases)) in
@@ -85,7 +85,7 @@ loop-again c =
 
 returns : tie.Need-returns Inv-loop μ-loop
 returns c =
-    let b = c .before .before .before .before .before in
+    let b = c .before .before .before .before .before .before in
     let l = c .before .loop in
     let vs = numbersOf (b .args .strand) (now (b .args .starts)) (now (b .args .ends)) (now (b .args .sums)) (now (b .args .bases)) in
     let n = length-map (now (b .args .bases)) (orientBase (b .args .strand)) in

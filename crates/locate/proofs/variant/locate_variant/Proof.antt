@@ -11,7 +11,6 @@ use Rattle.transcript.specs.Orient.{oriented}
 use Rattle.transcript.specs.Admission.{admission}
 use Rattle.footprint.specs.Ranges.{sourceRanges}
 use Rattle.locate.specs.declared.Located.{Located}
-use Rattle.locate.specs.declared.LocateIndex.{LocateIndex}
 use Rattle.locate.specs.Place.{locate}
 use Rattle.transcript.proofs.Asking.{base-low, start-within, refused-some, number-is, admitted-is}
 use Rattle.locate.proofs.VariantCases.{is-refused, is-15, is-14, is-at}
@@ -58,28 +57,21 @@ returns-2 c = let b = c .before .before .before .before .before .before .before 
 returns-3 : tie.Need-returns-3
 returns-3 c = let b = c .before .before .before .before .before .before .before .before .before .before .before .before .before .before in is-14 (on b lent) (b .args .chromosome) (b .args .start) (b .args .end) (admitted (c .before .before .before .before)) (sym (c .before .before .before .bad-place .ensures) ∙ c .before .before .if1 .left) (c .if2 .taken)
 
-index-of-requires : tie.Need-index-of-requires
-index-of-requires c κs = admitted (c .before .before .before .before)
-
 base-of-requires : tie.Need-base-of-requires
-base-of-requires c κs = let b = c .before .before .before .before .before .before .before .before .before .before .before .before .before .before .before .before .before in start-within (b .args .start) (b .args .end) (sym (c .before .before .before .before .before .before .bad-place .ensures) ∙ c .before .before .before .before .before .if1 .left)
+base-of-requires c κs = let b = c .before .before .before .before .before .before .before .before .before .before .before .before .before .before in start-within (b .args .start) (b .args .end) (sym (c .before .before .before .bad-place .ensures) ∙ c .before .before .if1 .left)
 
-place-of-base-requires : tie.Need-place-of-base-requires
-place-of-base-requires c κs =
-    let b = c .before .before .before .before .before .before .before .before .before .before .before .before .before .before .before .before .before .before .before in
-    let i = c .before .before .before .before .index-of .ensures in (
-      admitted (c .before .before .before .before .before .before .before .before .before),
-      (
-        (ap (λ (x : LocateIndex). x .scalars) i, ap (λ (x : LocateIndex). x .«cumulative_exons») i),
-        rw (c .before .base-of .ensures) (base-low (b .args .model .strand) (b .args .start) (start-within (b .args .start) (b .args .end) (sym (c .before .before .before .before .before .before .before .before .bad-place .ensures) ∙ c .before .before .before .before .before .before .before .if1 .left))),
-      ),
+place-alone-requires : tie.Need-place-alone-requires
+place-alone-requires c κs =
+    let b = c .before .before .before .before .before .before .before .before .before .before .before .before .before .before .before in (
+      admitted (c .before .before .before .before .before),
+      rw (c .base-of .ensures) (base-low (b .args .model .strand) (b .args .start) (start-within (b .args .start) (b .args .end) (sym (c .before .before .before .before .bad-place .ensures) ∙ c .before .before .before .if1 .left))),
     )
 
 returns-4 : tie.Need-returns-4
 returns-4 c =
-    let b = c .before .before .before .before .before .before .before .before .before .before .before .before .before .before .before .before .before .before .before .before in
-    ap Located.At (c .place-of-base .ensures ∙ ap (locate sourceRanges (oriented (on b lent))) (c .before .before .base-of .ensures))
-    ∙ is-at (on b lent) (b .args .chromosome) (b .args .start) (b .args .end) (admitted (c .before .before .before .before .before .before .before .before .before .before)) (sym (c .before .before .before .before .before .before .before .before .before .bad-place .ensures) ∙ c .before .before .before .before .before .before .before .before .if1 .left) (c .before .before .before .before .before .before .if2 .left)
+    let b = c .before .before .before .before .before .before .before .before .before .before .before .before .before .before .before .before in
+    ap Located.At (c .place-alone .ensures ∙ ap (locate sourceRanges (oriented (on b lent))) (c .before .base-of .ensures))
+    ∙ is-at (on b lent) (b .args .chromosome) (b .args .start) (b .args .end) (admitted (c .before .before .before .before .before .before)) (sym (c .before .before .before .before .before .bad-place .ensures) ∙ c .before .before .before .before .if1 .left) (c .before .before .if2 .left)
 
 pub locate-variant-spec : {M : Type 1} → statement M
 locate-variant-spec =
@@ -93,7 +85,6 @@ locate-variant-spec =
     bad-place-requires
     returns-2
     returns-3
-    index-of-requires
     base-of-requires
-    place-of-base-requires
+    place-alone-requires
     returns-4)
