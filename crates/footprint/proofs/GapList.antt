@@ -23,11 +23,11 @@ unfolding gapsAfter
 after-length e [] = refl
 after-length e (x ∷ xs) = ap suc (after-length (x .end) xs)
 
-gaps-length : (xs : List Interval) → length (gaps xs) ≡ length xs - 1
+pub gaps-length : (xs : List Interval) → length (gaps xs) ≡ length xs - 1
 gaps-length [] = refl
 gaps-length (x ∷ xs) = let n = after-length (x .end) xs in omega arith
 
-gaps-at : (xs : List Interval) (k : ℕ) → suc k < length xs → getD (gaps xs) k nowhere ≡ interval (getD xs k nowhere .end) (getD xs (suc k) nowhere .start)
+pub gaps-at : (xs : List Interval) (k : ℕ) → suc k < length xs → getD (gaps xs) k nowhere ≡ interval (getD xs k nowhere .end) (getD xs (suc k) nowhere .start)
 unfolding gapsAfter
 gaps-at [] k l = absurd (omega arith)
 gaps-at (x ∷ []) k l = absurd (omega arith)

@@ -4,3 +4,4 @@ pub mod Spills
 pub mod Flanking
 pub mod Asked
 pub mod Numbered
+pub mod BaseSpills

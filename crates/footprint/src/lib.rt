@@ -1,5 +1,6 @@
 // Questions about a footprint, an interval that may be empty: where it lies beside a transcript, whether an end of it lies in a
 // short intron, and whether the splice windows of a short intron reach it.
+mod base;
 mod beside;
 mod ends;
 mod gaps;
@@ -7,11 +8,12 @@ mod question;
 mod span;
 mod windows;
 
+pub use base::acceptor_spill;
+pub use base::donor_spill;
 pub use beside::classify_flank;
 pub use ends::frameshift_intron_endpoint;
 pub use gaps::has_frameshift_intron;
 pub use windows::exonic_splice_spill;
-pub use windows::spill_of;
 
 // Where a footprint lies beside a transcript, with its distance.
 pub enum Flank {

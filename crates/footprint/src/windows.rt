@@ -74,7 +74,13 @@ pub(crate) fn either(a: bool, b: bool) -> bool
 }
 
 // The windows that [from, to) hits.
-pub fn spill_of(starts: &[u64], ends: &[u64], strand: Strand, from: u64, to: u64) -> SpliceSpill
+pub(crate) fn spill_of(
+    starts: &[u64],
+    ends: &[u64],
+    strand: Strand,
+    from: u64,
+    to: u64,
+) -> SpliceSpill
     requires { ⌜ length (now starts) ≡ length (now ends) ⌝ }
     requires { ⌜ any badExon (exonsOf (now starts) (now ends)) ≡ false ⌝ }
     ensures { λ r. ⌜ ((t : Oriented) → t .exons ≡ lentExons strand (now (starts .entry)) (now (ends .entry)) → r ≡ exonicSpliceSpill t (interval from to)) ⌝ }
