@@ -20,7 +20,6 @@ use Rattle.transcript.proofs.Listed.{nowhere, edges-at}
 use Rattle.locate.specs.Index.{cumulative}
 use Rattle.transcript.specs.Lent.{lentExons}
 use Rattle.locate.specs.Sums.{firstSum, Sums}
-use Rattle.locate.proofs.Offset.{sum-at}
 use Rattle.locate.proofs.PrefixSums.{cumulative-first, cumulative-next, sizes-at}
 use Rattle.locate.proofs.LentIndex.{sizes-turned}
 use Rattle.locate.proofs.Searching.{count, start-at}
@@ -58,16 +57,16 @@ module _ (xs : List Interval) (sums : List ℕ) (s : Sums xs sums) where
   -- the base at a padded offset that segment i holds
   pub coding-at : (i k : ℕ) → i < length xs → getD sums i 0 ≤ k → k < getD sums (i + 1) 0 → codingPosition xs (k - firstSum sums) ≡ getD xs i nowhere .start + (k - getD sums i 0)
   coding-at i k l a b =
-      let e = sum-at xs sums s i (omega arith) in
-      let f = sum-at xs sums s (suc i) (omega arith) in
+      let e = s .are i (omega arith) in
+      let f = s .are (suc i) (omega arith) in
       let u : k < getD sums (suc i) 0 = rw add-one at b in
       position-at (firstSum sums) xs i k l (omega arith) (omega arith) ∙ ap (λ (n : ℕ). getD xs i nowhere .start + (k - n)) (sym e)
 
   sum-next : (i : ℕ) → i < length xs → getD sums (i + 1) 0 ≡ getD sums i 0 + getD (map size xs) i 0
   sum-next i l =
       let n = length-map xs size in
-      let e = sum-at xs sums s i (omega arith) in
-      let f = sum-at xs sums s (suc i) (omega arith) in
+      let e = s .are i (omega arith) in
+      let f = s .are (suc i) (omega arith) in
       rw add-one (f ∙ cumulative-next (firstSum sums) (map size xs) i (omega arith) ∙ ap (λ (n : ℕ). n + getD (map size xs) i 0) (sym e))
 
 module _ (σ : Strand) (gs ge sums : List ℕ) (pad : ℕ) (s : Segments σ gs ge sums pad) where
@@ -76,6 +75,10 @@ module _ (σ : Strand) (gs ge sums : List ℕ) (pad : ℕ) (s : Segments σ gs g
       let n = count σ gs ge (s .ready) in
       sum-next (lentExons σ gs ge) sums (s .summed) i (omega arith)
       ∙ ap (λ (m : ℕ). getD sums i 0 + m) (ap (λ (l : List ℕ). getD l i 0) (sizes-turned σ (exonsOf gs ge) (s .ready .edges)) ∙ sizes-at gs ge i (s .ready .even) l)
+
+  -- there is a sum behind each segment
+  pub reach : length gs < length sums
+  reach = let n = count σ gs ge (s .ready) in let r = s .summed .reach in omega arith
 
   -- a padded offset k that segment i holds
   module _ (k i : ℕ) (h : Held sums (length gs) k i) where

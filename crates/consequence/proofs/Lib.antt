@@ -8,3 +8,4 @@ pub mod ExonBases
 pub mod Preparing
 pub mod Calling
 pub mod Numbering
+pub mod BesideSpills

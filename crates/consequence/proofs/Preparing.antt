@@ -30,7 +30,7 @@ use Rattle.locate.proofs.Coding.{coding-place, coding-offset}
 use Rattle.locate.proofs.Offset.{CdnaOf, index-cdna}
 use Rattle.locate.proofs.CodedBases.{ready-coded}
 use Rattle.locate.proofs.LentTranscript.{known, ad, exons-are, segments-are, bases-are, count, segment-count, ready, coding-is, pad-2}
-use Rattle.locate.proofs.LentIndex.{exonic, exonic-first, coding, coding-first, total, coded}
+use Rattle.locate.proofs.LentIndex.{exonic, coding, total, coded}
 use Rattle.consequence.specs.declared.FetchedCodon.{FetchedCodon}
 use Rattle.consequence.specs.declared.region.Region.{Region}
 use Rattle.consequence.specs.Region.{regionOf, placeCalled}
@@ -86,9 +86,8 @@ module _ (m : TranscriptModel) (ss es ps is gs ge bs : List ℕ) (x : IndexScala
   pub exons-at : o .exons ≡ lentExons (m .strand) ss es
   exons-at = on exons-are
 
-  -- the exons of a spill
-  pub even-edges : (length ss ≡ length es) × (any badExon (exonsOf ss es) ≡ false)
-  even-edges = let a = on ad in (a .even, a .edges)
+  pub exons-ready : Ready (m .strand) ss es
+  exons-ready = on ready
 
   -- a base of exon i
   module _ (p i : ℕ) (k : Here (o .exons) p i) where
@@ -99,7 +98,7 @@ module _ (m : TranscriptModel) (ss es ps is gs ge bs : List ℕ) (x : IndexScala
         let l = k .0 in (
           on ready,
           (
-            (on exonic xs (h .exons-are), on exonic-first xs (h .exons-are)),
+            (on exonic xs (h .exons-are), h .exons-are .1),
             (omega arith, rw e at (k .1), rw e at (k .2)),
           ),
         )
@@ -139,7 +138,7 @@ module _ (m : TranscriptModel) (ss es ps is gs ge bs : List ℕ) (x : IndexScala
     segments-ready = record {
       ready = ready-coded (m .strand) gs ge ys bs (on coded ys (h .segments-are)) p (rw (on segments-are) at in-segment);
       summed = on coding ys (h .segments-are);
-      pad-is = ap (λ (y : IndexScalars). y .«cds_start_pad») (h .scalars-are) ∙ sym (on coding-first ys (h .segments-are));
+      pad-is = ap (λ (y : IndexScalars). y .«cds_start_pad») (h .scalars-are) ∙ sym (h .segments-are .1);
     }
 
     offset-low : f < x .«total_cds_length»

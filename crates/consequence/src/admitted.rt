@@ -30,8 +30,8 @@ pub fn annotate_admitted(
     seg_ends: &[u64],
     selenocysteine: &[u64],
     scalars: IndexScalars,
-    cumulative_exons: &[u32; 513],
-    cumulative_cds: &[u32; 513],
+    cumulative_exons: &[u32],
+    cumulative_cds: &[u32],
     selenocysteine_codons: &[u32; 64],
 ) -> Called
     requires { ⌜ Prepared (lent model (now «exon_starts») (now «exon_ends») (now «seg_phases») (now «seg_exons») (now «seg_starts») (now «seg_ends») (now selenocysteine)) scalars (now «cumulative_exons») (now «cumulative_cds») (now «selenocysteine_codons») ⌝ }

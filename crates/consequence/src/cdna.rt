@@ -16,7 +16,7 @@ pub(crate) fn compute_cdna_position_exonic(
     starts: &[u64],
     ends: &[u64],
     strand: Strand,
-    sums: &[u32; 513],
+    sums: &[u32],
     i: usize,
     p: u64,
 ) -> CdnaPosition

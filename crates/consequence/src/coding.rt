@@ -38,7 +38,7 @@ pub(crate) fn annotate_cds_snv(
     strand: Strand,
     starts: &[u64],
     ends: &[u64],
-    sums: &[u32; 513],
+    sums: &[u32],
     codons: &[u32; 64],
     first: u64,
     bytes: &[u8],

@@ -13,6 +13,7 @@ mod segment;
 mod selenocysteine;
 mod snv;
 mod spill;
+mod summed;
 mod window;
 
 pub use admitted::annotate_admitted;
@@ -21,6 +22,7 @@ use codon::Codon;
 use codon::Codons;
 use locate::VariantLocation;
 pub use snv::annotate_snv;
+pub use summed::annotate_summed;
 use terms::TermSet;
 
 pub struct Call {

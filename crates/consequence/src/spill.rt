@@ -1,19 +1,48 @@
-// The splice spill at one base.
+// The splice spill at one base: only the gaps beside the exon that holds it can have a window there.
 use footprint::SpliceSpill;
-use footprint::spill_of;
+use footprint::acceptor_spill;
+use footprint::donor_spill;
+use locate::started;
 use transcript::Strand;
 ghost use mathlib.Core.Path.{_≡_};
-ghost use mathlib.Core.Bool.{false};
 ghost use Prim.Native.Nat.{_+_, _≤_};
 ghost use lib.ListN.{length};
 ghost use Rattle.common.specs.Lists.{any};
 ghost use Rattle.transcript.specs.Limits.{top};
-ghost use Rattle.transcript.specs.Transcript.{exonsOf};
 ghost use Rattle.transcript.specs.Orient.{interval, Oriented};
 ghost use Rattle.transcript.specs.Bases.{gaps};
-ghost use Rattle.transcript.specs.Admission.{badExon};
-ghost use Rattle.footprint.specs.ShortIntron.{isFrameshiftGap, exonicSpliceSpill};
 ghost use Rattle.transcript.specs.Lent.{lentExons};
+ghost use Rattle.footprint.specs.Lent.{lentGaps};
+ghost use Rattle.footprint.specs.ShortIntron.{isFrameshiftGap, donorWindow, acceptorWindow, spillsInto, exonicSpliceSpill};
+ghost use Rattle.locate.specs.Search.{Ready, Started};
+
+// Whether p, an oriented base, hits a donor window; n exons start at or before it.
+fn hits_donor(starts: &[u64], ends: &[u64], strand: Strand, n: usize, p: u64) -> bool
+    requires { ⌜ Ready strand (now starts) (now ends) ⌝ }
+    requires { ⌜ (n ≤ length (now starts)) × Started (lentExons strand (now starts) (now ends)) p n ⌝ }
+    ensures { λ r. ⌜ r ≡ any (spillsInto donorWindow (interval p (p + 1))) (lentGaps strand (now (starts .entry)) (now (ends .entry))) ⌝ }
+{
+    if n < 2 {
+        return false;
+    }
+    donor_spill(starts, ends, strand, n - 2, p)
+}
+
+// Whether p hits an acceptor window.
+fn hits_acceptor(starts: &[u64], ends: &[u64], strand: Strand, n: usize, p: u64) -> bool
+    requires { ⌜ Ready strand (now starts) (now ends) ⌝ }
+    requires { ⌜ (n ≤ length (now starts)) × Started (lentExons strand (now starts) (now ends)) p n ⌝ }
+    requires { ⌜ p ≤ top ⌝ }
+    ensures { λ r. ⌜ r ≡ any (spillsInto acceptorWindow (interval p (p + 1))) (lentGaps strand (now (starts .entry)) (now (ends .entry))) ⌝ }
+{
+    if n == 0 {
+        return false;
+    }
+    if n == starts.len() {
+        return false;
+    }
+    acceptor_spill(starts, ends, strand, n - 1, p)
+}
 
 // The windows that p, an oriented base, hits. Without a short intron, `short`, there are none.
 pub(crate) fn spill_at(
@@ -23,8 +52,7 @@ pub(crate) fn spill_at(
     strand: Strand,
     p: u64,
 ) -> SpliceSpill
-    requires { ⌜ length (now starts) ≡ length (now ends) ⌝ }
-    requires { ⌜ any badExon (exonsOf (now starts) (now ends)) ≡ false ⌝ }
+    requires { ⌜ Ready strand (now starts) (now ends) ⌝ }
     requires { ⌜ p ≤ top ⌝ }
     ensures { λ r. ⌜ ((t : Oriented) → t .exons ≡ lentExons strand (now (starts .entry)) (now (ends .entry)) → short ≡ any isFrameshiftGap (gaps (t .exons)) → r ≡ exonicSpliceSpill t (interval p (p + 1))) ⌝ }
 {
@@ -34,5 +62,9 @@ pub(crate) fn spill_at(
             acceptor: false,
         };
     }
-    spill_of(starts, ends, strand, p, p + 1)
+    let n = started(starts, ends, strand, p);
+    SpliceSpill {
+        donor: hits_donor(starts, ends, strand, n, p),
+        acceptor: hits_acceptor(starts, ends, strand, n, p),
+    }
 }

@@ -19,7 +19,7 @@ use Rattle.consequence.specs.Window.{Window}
 use Rattle.consequence.specs.Call.{openingRefusal, annotateSnv}
 use Rattle.consequence.specs.Prepared.{Prepared}
 use Rattle.consequence.proofs.Refusals.{opening-within}
-use Rattle.consequence.proofs.Preparing.{exons-at, even-edges}
+use Rattle.consequence.proofs.Preparing.{exons-at, exons-ready}
 use Rattle.consequence.proofs.Calling.{spilled, refused-same, refused, answered}
 use borrow.Author.Needs.{needs}
 use Rattle.consequence.proofs.admitted.annotate_admitted.Statement.{statement}
@@ -39,7 +39,7 @@ window b = record { chromosome = b .args .window-chromosome; first = b .args .wi
 
 -- where the call was asked
 abbrev start : tie.Else1 → tie.Start
-start c = c .before .before .before .before .before .before .before .before .before .before
+start c = c .before .before .before .before .before .before .before .before .before .before .before .before
 
 -- past the first refusals
 opened : (c : tie.Else1) → openingRefusal (transcript (start c)) (window (start c)) (start c .args .call) ≡ 0
@@ -67,7 +67,7 @@ opening-refusal-requires c κs = search needs
 
 returns : tie.Need-returns
 returns c =
-    let b = c .before .before .before .before .before .before .before .before .before .before in
+    let b = c .before .before .before .before .before .before .before .before .before .before .before .before in
     let r = c .before .opening-refusal in
     refused (transcript b) (window b) (b .args .call) (r .result) (omega arith) (sym (r .ensures (transcript b) (b .pre .admitted) refl))
 
@@ -90,7 +90,7 @@ returns-2 : tie.Need-returns-2
 returns-2 c = refused-same (spill (c .before .before .before .before)) (c .before .before .annotate-place .result) _ (c .enum-told .given .1) ∙ whole (c .before .before) (spill (c .before .before .before .before)) refl
 
 spill-at-requires : tie.Need-spill-at-requires
-spill-at-requires c κs = let e = on (start (c .before .before .before .before .before .before)) even-edges in (e .0, (e .1, low (c .before .before .before .before .before)))
+spill-at-requires c κs = (on (start (c .before .before .before .before .before .before)) exons-ready, low (c .before .before .before .before .before))
 
 add-splice-spill-requires : tie.Need-add-splice-spill-requires
 add-splice-spill-requires c κs = search needs

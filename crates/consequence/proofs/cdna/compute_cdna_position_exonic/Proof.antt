@@ -14,7 +14,7 @@ use Rattle.transcript.specs.Lent.{lentExons}
 use Rattle.transcript.proofs.Listed.{nowhere}
 use Rattle.locate.specs.Search.{Ready}
 use Rattle.locate.specs.Sums.{firstSum, Sums}
-use Rattle.locate.proofs.Searching.{end-low}
+use Rattle.locate.proofs.Searching.{count, end-low}
 use Rattle.consequence.proofs.ExonBases.{from-le, read-bases, bases-low}
 use borrow.Author.Needs.{needs}
 use Rattle.consequence.proofs.cdna.compute_cdna_position_exonic.Statement.{statement}
@@ -44,33 +44,33 @@ shared-slice-read-e c = search needs
 
 start-of-requires : tie.Need-start-of-requires
 start-of-requires c κs =
-    let b = c .before .before .before .before in
+    let b = c .before .before .before .before .before in
     end-low (b .args .strand) (now (b .args .starts)) (now (b .args .ends)) (b .pre .0) (b .args .i) (b .pre .1 .1 .0)
 
 sub-d : tie.Need-sub-d
-sub-d c = on (c .before .before .before .before .before) from-le (c .start-of .result) (c .start-of .ensures)
+sub-d c = on (c .before .before .before .before .before .before) from-le (c .start-of .result) (c .start-of .ensures)
 
 mul-t10 : tie.Need-mul-t10
 mul-t10 c = search needs
 
-element-copy-out-t16 : tie.Need-element-copy-out-t16
-element-copy-out-t16 c = search needs
+shared-slice-read-t15 : tie.Need-shared-slice-read-t15
+shared-slice-read-t15 c = let b = c .before .before .before .before .before .before .before in let n = count (b .args .strand) (now (b .args .starts)) (now (b .args .ends)) (b .pre .0) in let r = b .pre .1 .0 .0 .reach in omega arith
 
 -- the bases before the exon and the place in it
-read : (c : tie.After-t16) → getD (now (c .before .before .before .before .before .before .args .sums)) (c .before .before .before .before .before .before .args .i) 0 + (c .before .before .before .before .before .before .args .p - c .before .start-of .result) ≡ basesIn (lentExons (c .before .before .before .before .before .before .args .strand) (now (c .before .before .before .before .before .before .args .starts)) (now (c .before .before .before .before .before .before .args .ends))) 0 (c .before .before .before .before .before .before .args .p)
-read c = on (c .before .before .before .before .before .before) read-bases (c .before .start-of .result) (c .before .start-of .ensures)
+read : (c : tie.After-shared-slice-known6) → getD (now (c .before .before .before .before .before .before .before .args .sums)) (c .before .before .before .before .before .before .before .args .i) 0 + (c .before .before .before .before .before .before .before .args .p - c .before .start-of .result) ≡ basesIn (lentExons (c .before .before .before .before .before .before .before .args .strand) (now (c .before .before .before .before .before .before .before .args .starts)) (now (c .before .before .before .before .before .before .before .args .ends))) 0 (c .before .before .before .before .before .before .before .args .p)
+read c = on (c .before .before .before .before .before .before .before) read-bases (c .before .start-of .result) (c .before .start-of .ensures)
 
-read-low : (c : tie.After-t16) → getD (now (c .before .before .before .before .before .before .args .sums)) (c .before .before .before .before .before .before .args .i) 0 + (c .before .before .before .before .before .before .args .p - c .before .start-of .result) < top
-read-low c = rw (read c) (on (c .before .before .before .before .before .before) bases-low (c .before .start-of .result) (c .before .start-of .ensures))
+read-low : (c : tie.After-shared-slice-known6) → getD (now (c .before .before .before .before .before .before .before .args .sums)) (c .before .before .before .before .before .before .before .args .i) 0 + (c .before .before .before .before .before .before .before .args .p - c .before .start-of .result) < top
+read-low c = rw (read c) (on (c .before .before .before .before .before .before .before) bases-low (c .before .start-of .result) (c .before .start-of .ensures))
 
-cast-t17 : tie.Need-cast-t17
-cast-t17 c = let l = read-low c in omega arith
+cast-t16 : tie.Need-cast-t16
+cast-t16 c = let l = read-low c in omega arith
+
+add-t17 : tie.Need-add-t17
+add-t17 c = let l = read-low c in omega arith
 
 add-t18 : tie.Need-add-t18
 add-t18 c = let l = read-low c in omega arith
-
-add-t19 : tie.Need-add-t19
-add-t19 c = let l = read-low c in omega arith
 
 returns : tie.Need-returns
 returns c = ap (λ (n : ℕ). n + 1) (read c)
@@ -86,8 +86,8 @@ compute-cdna-position-exonic-spec =
     start-of-requires
     sub-d
     mul-t10
-    element-copy-out-t16
-    cast-t17
+    shared-slice-read-t15
+    cast-t16
+    add-t17
     add-t18
-    add-t19
     returns)

@@ -38,7 +38,7 @@ enum-told c = search needs
 
 returns : tie.Need-returns
 returns c =
-    let b = c .before .before .before .before .before .before in
+    let b = c .before .before .before .before .before .before .before in
     λ t p he hs hc hg hu hd. ap (called b t p) (sym (c .enum-told .given .1) ∙ c .before .before .fetch-ref-codon .ensures t (pad-of b t hs) hg (total-of b t hs))
 
 is-start-codon-requires : tie.Need-is-start-codon-requires
@@ -57,18 +57,18 @@ coding-byte-requires : tie.Need-coding-byte-requires
 coding-byte-requires c κs = search needs
 
 read-codon-requires : tie.Need-read-codon-requires
-read-codon-requires c κs = search needs
+read-codon-requires c κs = c .before .before .before .before .before .before .before .before .before .before .before .before .before .pre .1 .1 .1 .1
 
 cdna-position-requires : tie.Need-cdna-position-requires
-cdna-position-requires c κs = let h = c .before .before .before .before .before .before .before .before .before .before .before .before .before .pre .1 .1 .1 in (h .2, h .3)
+cdna-position-requires c κs = let h = c .before .before .before .before .before .before .before .before .before .before .before .before .before .before .pre .1 .1 .1 in (h .2, h .3)
 
 exon-result-requires : tie.Need-exon-result-requires
-exon-result-requires c κs = c .before .before .before .before .before .before .before .before .before .before .before .before .before .before .pre .1 .1 .1 .0
+exon-result-requires c κs = c .before .before .before .before .before .before .before .before .before .before .before .before .before .before .before .pre .1 .1 .1 .0
 
 returns-2 : tie.Need-returns-2
 unfolding codonColumns
 returns-2 c =
-    let b = c .before .before .before .before .before .before .before .before .before .before .before .before .before .before .before in
+    let b = c .before .before .before .before .before .before .before .before .before .before .before .before .before .before .before .before in
     let d = c .before .before .before .before .before .before .before .before .before .codon in
     let bases = d .given .0 .0 in
     λ t p he hs hc hg hu hd.

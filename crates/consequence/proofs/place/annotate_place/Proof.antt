@@ -61,7 +61,7 @@ enum-known-region-2 : tie.Need-enum-known-region-2
 enum-known-region-2 c = search needs
 
 intron-result-requires : tie.Need-intron-result-requires
-intron-result-requires c κs = let b = c .before .before .before .before .before .before .before .before .before .before .before .before in on b index-fits _ (at b _ (sym (c .before .region2 .given .1) ∙ c .before .before .before .region-of .ensures))
+intron-result-requires c κs = let b = c .before .before .before .before .before .before .before .before .before .before .before .before .before .before in on b index-fits _ (at b _ (sym (c .before .region2 .given .1) ∙ c .before .before .before .region-of .ensures))
 
 enum-known-region-3 : tie.Need-enum-known-region-3
 enum-known-region-3 c = search needs
@@ -70,34 +70,34 @@ cast-compute-cdna-position-exonic : tie.Need-cast-compute-cdna-position-exonic
 cast-compute-cdna-position-exonic c = search needs
 
 compute-cdna-position-exonic-requires : tie.Need-compute-cdna-position-exonic-requires
-compute-cdna-position-exonic-requires c κs = let b = c .before .before .before .before .before .before .before .before .before .before .before .before in on b exon-requires (b .args .p) _ (at b _ (sym (c .before .region3 .given .1) ∙ c .before .before .before .region-of .ensures))
+compute-cdna-position-exonic-requires c κs = let b = c .before .before .before .before .before .before .before .before .before .before .before .before .before .before in on b exon-requires (b .args .p) _ (at b _ (sym (c .before .region3 .given .1) ∙ c .before .before .before .region-of .ensures))
 
 term-alone-requires : tie.Need-term-alone-requires
 term-alone-requires c κs = search needs
 
 exon-result-requires : tie.Need-exon-result-requires
-exon-result-requires c κs = let b = c .before .before .before .before .before .before .before .before .before .before .before .before .before .before in on b index-fits _ (at b _ (sym (c .before .before .before .region3 .given .1) ∙ c .before .before .before .before .before .region-of .ensures) .0) .0
+exon-result-requires c κs = let b = c .before .before .before .before .before .before .before .before .before .before .before .before .before .before .before .before in on b index-fits _ (at b _ (sym (c .before .before .before .region3 .given .1) ∙ c .before .before .before .before .before .region-of .ensures) .0) .0
 
 enum-known-region-4 : tie.Need-enum-known-region-4
 enum-known-region-4 c = search needs
 
 annotate-cds-snv-requires : tie.Need-annotate-cds-snv-requires
-annotate-cds-snv-requires c κs = let b = c .before .before .before .before .before .before .before .before .before .before .before .before in on b coding-requires (b .args .p) (b .args .place) (b .pre .1) _ _ _ _ _ (sym (c .before .region4 .given .1) ∙ c .before .before .before .region-of .ensures)
+annotate-cds-snv-requires c κs = let b = c .before .before .before .before .before .before .before .before .before .before .before .before .before .before in on b coding-requires (b .args .p) (b .args .place) (b .pre .1) _ _ _ _ _ (sym (c .before .region4 .given .1) ∙ c .before .before .before .region-of .ensures)
 
 returns : tie.Need-returns
-returns c = answer (c .before .before .before .before .before .before .before .before .before .before .before) Region.Distal (sym (c .enum-told .given .1) ∙ c .before .before .region-of .ensures)
+returns c = answer (c .before .before .before .before .before .before .before .before .before .before .before .before .before) Region.Distal (sym (c .enum-told .given .1) ∙ c .before .before .region-of .ensures)
 
 returns-2 : tie.Need-returns-2
-returns-2 c = ap Called.Answered (c .flank-result .ensures) ∙ answer (c .before .before .before .before .before .before .before .before .before .before .before .before .before) _ (sym (c .before .before .region .given .1) ∙ c .before .before .before .before .region-of .ensures)
+returns-2 c = ap Called.Answered (c .flank-result .ensures) ∙ answer (c .before .before .before .before .before .before .before .before .before .before .before .before .before .before .before) _ (sym (c .before .before .region .given .1) ∙ c .before .before .before .before .region-of .ensures)
 
 returns-3 : tie.Need-returns-3
 returns-3 c =
-    let b = c .before .before .before .before .before .before .before .before .before .before .before .before .before in
+    let b = c .before .before .before .before .before .before .before .before .before .before .before .before .before .before .before in
     ap Called.Answered (c .intron-result .ensures (oriented (transcript b)) (on b exon-count)) ∙ answer b _ (sym (c .before .before .region2 .given .1) ∙ c .before .before .before .before .region-of .ensures)
 
 returns-4 : tie.Need-returns-4
 returns-4 c =
-    let b = c .before .before .before .before .before .before .before .before .before .before .before .before .before .before .before in
+    let b = c .before .before .before .before .before .before .before .before .before .before .before .before .before .before .before .before .before in
     let d = c .before .before .before .before .region3 in
     let n = c .before .before .compute-cdna-position-exonic in
     ap Called.Answered
@@ -108,7 +108,7 @@ returns-4 c =
 returns-5 : tie.Need-returns-5
 unfolding oriented
 returns-5 c =
-    let b = c .before .before .before .before .before .before .before .before .before .before .before .before .before in
+    let b = c .before .before .before .before .before .before .before .before .before .before .before .before .before .before .before in
     let e = sym (c .before .before .region4 .given .1) ∙ c .before .before .before .before .region-of .ensures in
     c .annotate-cds-snv .ensures (oriented (transcript b)) (b .args .p) (on b exon-count) (b .pre .0 .scalars-are) refl (on b segments-at) (b .pre .0 .codons-are)
     (on b coding-cdna (b .args .p) (b .args .place) (b .pre .1) _ _ _ _ _ e)

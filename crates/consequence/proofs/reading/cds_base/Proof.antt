@@ -9,7 +9,7 @@ use borrow.Author.Tests.{lt-ltb, le-ltb}
 use Rattle.transcript.specs.declared.Strand.{Strand}
 use Rattle.consequence.specs.Reading.{cdsBase}
 use Rattle.consequence.specs.Segments.{Segments, Held}
-use Rattle.consequence.proofs.CodingBases.{sum-le, in-segment, base-is}
+use Rattle.consequence.proofs.CodingBases.{reach, sum-le, in-segment, base-is}
 use borrow.Author.Needs.{needs}
 use Rattle.consequence.proofs.reading.cds_base.Statement.{statement}
 use Rattle.consequence.proofs.reading.cds_base.Tie as tie
@@ -22,7 +22,7 @@ on b f = f (b .args .strand) (now (b .args .starts)) (now (b .args .ends)) (now 
 
 returns : tie.Need-returns
 unfolding cdsBase
-returns c = let a = c .before .before .before .before .args in λ t h s. rw (h, lt-ltb (a .k) (a .pad) (omega arith))
+returns c = let a = c .before .before .before .before .before .args in λ t h s. rw (h, lt-ltb (a .k) (a .pad) (omega arith))
 
 mul-s : tie.Need-mul-s
 mul-s c = omega arith
@@ -34,22 +34,22 @@ mul-e : tie.Need-mul-e
 mul-e c = omega arith
 
 shared-slice-read-e : tie.Need-shared-slice-read-e
-shared-slice-read-e c = let e = c .before .before .before .before .before .before .pre .0 .ready .even in omega arith
+shared-slice-read-e c = let e = c .before .before .before .before .before .before .before .pre .0 .ready .even in omega arith
 
 mul-d : tie.Need-mul-d
 mul-d c = omega arith
 
-element-copy-out-d : tie.Need-element-copy-out-d
-element-copy-out-d c = omega arith
+shared-slice-read-d : tie.Need-shared-slice-read-d
+shared-slice-read-d c = let b = c .before .before .before .before .before .before .before .before in let r = reach (b .args .strand) (now (b .args .starts)) (now (b .args .ends)) (now (b .args .sums)) (b .args .pad) (b .pre .0) in let h = b .pre .1 .index in omega arith
 
 sub-d : tie.Need-sub-d
-sub-d c = on (c .before .before .before .before .before .before .before) sum-le (omega arith)
+sub-d c = on (c .before .before .before .before .before .before .before .before) sum-le (omega arith)
 
 cast-nth-base : tie.Need-cast-nth-base
 cast-nth-base c = omega arith
 
 nth-base-requires : tie.Need-nth-base-requires
-nth-base-requires c κs = on (c .before .before .before .before .before .before .before) in-segment (omega arith)
+nth-base-requires c κs = on (c .before .before .before .before .before .before .before .before) in-segment (omega arith)
 
 coding-base-at-requires : tie.Need-coding-base-at-requires
 coding-base-at-requires c κs = search needs
@@ -57,7 +57,7 @@ coding-base-at-requires c κs = search needs
 returns-2 : tie.Need-returns-2
 unfolding cdsBase
 returns-2 c =
-    let b = c .before .before .before .before .before .before .before .before .before in
+    let b = c .before .before .before .before .before .before .before .before .before .before in
     λ t h s. rw (h, s, le-ltb (b .args .k) (b .args .pad) (omega arith), on b base-is (omega arith), ← c .before .nth-base .ensures) (c .coding-base-at .ensures)
 
 pub cds-base-spec : {M : Type 1} → statement M
@@ -70,7 +70,7 @@ cds-base-spec =
     mul-e
     shared-slice-read-e
     mul-d
-    element-copy-out-d
+    shared-slice-read-d
     sub-d
     cast-nth-base
     nth-base-requires

@@ -14,7 +14,7 @@ use Rattle.consequence.specs.declared.FetchedBase.{FetchedBase}
 use Rattle.consequence.specs.Window.{windowFrom, codingBase}
 use Rattle.consequence.specs.Reading.{cdsBase, lengthAt, codonLength}
 use Rattle.consequence.specs.Segments.{Held}
-use Rattle.consequence.proofs.CodingBases.{held-next}
+use Rattle.consequence.proofs.CodingBases.{reach, held-next}
 use Rattle.consequence.proofs.CodonBases.{length-within, outside-first, one-base, outside-second, two-bases, outside-third, three-bases}
 use borrow.Author.Needs.{needs}
 use Rattle.consequence.proofs.reading.fetch_ref_codon.Statement.{statement}
@@ -22,7 +22,7 @@ use Rattle.consequence.proofs.reading.fetch_ref_codon.Tie as tie
 
 -- where the steps began: the whole, the second base, the third
 abbrev start : tie.After-codon-length → tie.Start
-start c = c .before .before .before .before
+start c = c .before .before .before .before .before
 
 abbrev one : tie.After-known-told → tie.After-codon-length
 one c = c .before .before .before .before .before
@@ -95,7 +95,8 @@ segment-of-requires c κs =
     let n = b .pre .1 .0 in
     let m = ap (λ (i : ℕ). getD (now (b .args .sums)) i 0) n in
     let e = b .pre .1 .1 in
-    (omega arith, omega arith, omega arith)
+    let w = reach (b .args .strand) (now (b .args .starts)) (now (b .args .ends)) (now (b .args .sums)) (b .args .scalars .«cds_start_pad») (b .pre .0) in
+    (omega arith, omega arith, omega arith, omega arith)
 
 cds-base-requires : tie.Need-cds-base-requires
 cds-base-requires c κs = (start (c .before) .pre .0, held c)
@@ -124,7 +125,13 @@ add-next-segment : tie.Need-add-next-segment
 add-next-segment c = search needs
 
 next-segment-requires : tie.Need-next-segment-requires
-next-segment-requires c κs = search needs
+next-segment-requires c κs =
+    let l = one (c .before) in
+    let b = start l in
+    let h = held (c .before .before .before .before .before) .index in
+    let r = b .pre .0 .ready .few in
+    let w = reach (b .args .strand) (now (b .args .starts)) (now (b .args .ends)) (now (b .args .sums)) (b .args .scalars .«cds_start_pad») (b .pre .0) in
+    (omega arith, omega arith)
 
 add-cds-base : tie.Need-add-cds-base
 add-cds-base c = search needs
@@ -160,8 +167,11 @@ add-next-segment-2 c = let l = one (two (c .before)) in let b = start l in let w
 next-segment-requires-2 : tie.Need-next-segment-requires-2
 next-segment-requires-2 c κs =
     let h = held-second (c .before .before .before .before .before) in
-    let r = start (one (two (c .before))) .pre .0 .ready in
-    omega arith
+    let b = start (one (two (c .before))) in
+    let i = h .index in
+    let r = b .pre .0 .ready .few in
+    let w = reach (b .args .strand) (now (b .args .starts)) (now (b .args .ends)) (now (b .args .sums)) (b .args .scalars .«cds_start_pad») (b .pre .0) in
+    (omega arith, omega arith)
 
 add-cds-base-2 : tie.Need-add-cds-base-2
 add-cds-base-2 c = let l = one (two (c .before .before)) in let b = start l in let w = fits l in omega arith

@@ -15,8 +15,8 @@ add-if1 c = search needs
 mul-if1 : tie.Need-mul-if1
 mul-if1 c = search needs
 
-element-copy-out-if1 : tie.Need-element-copy-out-if1
-element-copy-out-if1 c = search needs
+shared-slice-read-if1 : tie.Need-shared-slice-read-if1
+shared-slice-read-if1 c = search needs
 
 returns : tie.Need-returns
 returns c = let a = c .before .before .args in rw (lt-ltb (a .k) (getD (now (a .sums)) (a .i + 1) 0) (omega arith))
@@ -29,4 +29,4 @@ returns-2 c = let a = c .before .before .args in rw (le-ltb (a .k) (getD (now (a
 
 pub next-segment-spec : {M : Type 1} → statement M
 next-segment-spec =
-    tie.close (tie.spec add-if1 mul-if1 element-copy-out-if1 returns add-result returns-2)
+    tie.close (tie.spec add-if1 mul-if1 shared-slice-read-if1 returns add-result returns-2)

@@ -28,8 +28,8 @@ add-mid c = omega arith
 mul-if1 : tie.Need-mul-if1 Inv-loop μ-loop
 mul-if1 c = omega arith
 
-element-copy-out-if1 : tie.Need-element-copy-out-if1 Inv-loop μ-loop
-element-copy-out-if1 c = omega arith
+shared-slice-read-if1 : tie.Need-shared-slice-read-if1 Inv-loop μ-loop
+shared-slice-read-if1 c = omega arith
 
 loop-less : tie.Need-loop-less Inv-loop μ-loop
 loop-less c = omega arith
@@ -60,7 +60,7 @@ segment-of-spec =
     sub-mid
     add-mid
     mul-if1
-    element-copy-out-if1
+    shared-slice-read-if1
     loop-less
     loop-again
     loop-less-2

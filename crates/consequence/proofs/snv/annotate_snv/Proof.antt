@@ -4,9 +4,12 @@ use mathlib.Core.Path.{_≡_, ap, _∙_}
 use native.Mathlib.Omega.{arith}
 use denote.Ref.{now}
 use Rattle.transcript.specs.Transcript.{Transcript, lent}
+use Rattle.transcript.specs.Orient.{oriented}
 use Rattle.transcript.specs.Admission.{admission}
 use Rattle.transcript.proofs.Asking.{refused-some, number-is, admitted-is}
 use Rattle.locate.specs.declared.LocateIndex.{LocateIndex}
+use Rattle.locate.proofs.Offset.{index-exons, index-cds}
+use Rattle.locate.proofs.LentTranscript.{pad-2}
 use Rattle.consequence.specs.Window.{Window}
 use Rattle.consequence.proofs.Calling.{not-admitted}
 use borrow.Author.Needs.{needs}
@@ -46,14 +49,22 @@ returns c =
 index-of-requires : tie.Need-index-of-requires
 index-of-requires c κs = admitted c
 
+slice-aggregate-annotate-admitted : tie.Need-slice-aggregate-annotate-admitted
+slice-aggregate-annotate-admitted c = search needs
+
+slice-aggregate-annotate-admitted-2 : tie.Need-slice-aggregate-annotate-admitted-2
+slice-aggregate-annotate-admitted-2 c = search needs
+
 annotate-admitted-requires : tie.Need-annotate-admitted-requires
 annotate-admitted-requires c κs =
     let i = c .before .before .before .before .before .before .before .index-of .ensures in
+    let a = admitted (c .before .before .before .before .before .before .before .before) in
+    let b = c .before .before .before .before .before .before .before .before .before .before .before .before .before .before .before .before .before .before .before in
     record {
-      admitted = admitted (c .before .before .before .before .before .before .before .before);
+      admitted = a;
       scalars-are = ap (λ (x : LocateIndex). x .scalars) i;
-      exons-are = ap (λ (x : LocateIndex). x .«cumulative_exons») i;
-      segments-are = ap (λ (x : LocateIndex). x .«cumulative_cds») i;
+      exons-are = rw (ap (λ (x : LocateIndex). x .«cumulative_exons») i) (index-exons (oriented (transcript b)));
+      segments-are = rw (ap (λ (x : LocateIndex). x .«cumulative_cds») i) (index-cds (oriented (transcript b)) (pad-2 (b .args .model) (now (b .args .exon-starts)) (now (b .args .exon-ends)) (now (b .args .seg-phases)) (now (b .args .seg-exons)) (now (b .args .seg-starts)) (now (b .args .seg-ends)) (now (b .args .selenocysteine)) a));
       codons-are = ap (λ (x : LocateIndex). x .«selenocysteine_codons») i;
     }
 
@@ -70,5 +81,7 @@ annotate-snv-spec =
     refusal-number-requires
     returns
     index-of-requires
+    slice-aggregate-annotate-admitted
+    slice-aggregate-annotate-admitted-2
     annotate-admitted-requires
     returns-2)

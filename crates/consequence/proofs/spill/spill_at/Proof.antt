@@ -1,10 +1,11 @@
 -- `consequence::spill::spill_at` meets its contract.
 -- Assumes nothing.
-use Prim.Native.Nat.{_+_}
-use mathlib.Core.Path.{sym, _∙_}
-use borrow.Author.Tests.{not-true}
-use Rattle.transcript.specs.Orient.{interval}
 use Rattle.footprint.proofs.Spills.{no-short-gap}
+use Rattle.footprint.specs.ShortIntron.{exonicSpliceSpill}
+use Rattle.transcript.specs.Orient.{interval}
+use borrow.Author.Tests.{not-true}
+use mathlib.Core.Path.{sym, _∙_}
+use Prim.Native.Nat.{_+_}
 use borrow.Author.Needs.{needs}
 use Rattle.consequence.proofs.spill.spill_at.Statement.{statement}
 use Rattle.consequence.proofs.spill.spill_at.Tie as tie
@@ -12,14 +13,23 @@ use Rattle.consequence.proofs.spill.spill_at.Tie as tie
 returns : tie.Need-returns
 returns c = let b = c .before .before .before .args in λ t e h. sym (no-short-gap t (interval (b .p) (b .p + 1)) (sym h ∙ not-true (b .short) (c .if1 .taken)))
 
-add-spill-of : tie.Need-add-spill-of
-add-spill-of c = search needs
+started-requires : tie.Need-started-requires
+started-requires c κs = search needs
 
-spill-of-requires : tie.Need-spill-of-requires
-spill-of-requires c κs = search needs
+hits-donor-requires : tie.Need-hits-donor-requires
+hits-donor-requires c κs = search needs
+
+hits-acceptor-requires : tie.Need-hits-acceptor-requires
+hits-acceptor-requires c κs = search needs
 
 returns-2 : tie.Need-returns-2
-returns-2 c = λ t e h. c .spill-of .ensures t e
+unfolding exonicSpliceSpill
+returns-2 c =
+    let d = c .before .hits-donor .ensures in
+    let a = c .hits-acceptor .ensures in
+    λ t e h. rw e (λ j. record { donor = d j; acceptor = a j })
 
 pub spill-at-spec : {M : Type 1} → statement M
-spill-at-spec = tie.close (tie.spec returns add-spill-of spill-of-requires returns-2)
+spill-at-spec =
+    tie.close
+    (tie.spec returns started-requires hits-donor-requires hits-acceptor-requires returns-2)

@@ -1,0 +1,76 @@
+// The single-base call on an admitted transcript whose lengths are summed up.
+use super::Call;
+use super::Called;
+use super::admitted::annotate_admitted;
+use locate::scalars_of;
+use locate::selenocysteine_codons;
+use transcript::TranscriptModel;
+ghost use mathlib.Core.Path.{_≡_};
+ghost use Rattle.transcript.specs.Transcript.{lent};
+ghost use Rattle.footprint.specs.Ranges.{sourceRanges};
+ghost use Rattle.consequence.specs.Call.{annotateSnv};
+ghost use Rattle.consequence.specs.Prepared.{Summed};
+
+// The answer from the cumulative lengths of exons and CDS and whether there is a short intron, or the number of the refusal: 15,
+// 14, 20, 16, 17, 18, 19 and 21.
+pub fn annotate_summed(
+    window_chromosome: u16,
+    window_first: u64,
+    window: &[u8],
+    call: Call,
+    model: TranscriptModel,
+    exon_starts: &[u64],
+    exon_ends: &[u64],
+    seg_phases: &[u8],
+    seg_exons: &[u16],
+    seg_starts: &[u64],
+    seg_ends: &[u64],
+    selenocysteine: &[u64],
+    cumulative_exons: &[u32],
+    cumulative_cds: &[u32],
+    short: bool,
+) -> Called
+    requires { ⌜ Summed (lent model (now «exon_starts») (now «exon_ends») (now «seg_phases») (now «seg_exons») (now «seg_starts») (now «seg_ends») (now selenocysteine)) (now «cumulative_exons») (now «cumulative_cds») short ⌝ }
+    ensures { λ r. ⌜ r ≡ annotateSnv sourceRanges (lent model (now («exon_starts» .entry)) (now («exon_ends» .entry)) (now («seg_phases» .entry)) (now («seg_exons» .entry)) (now («seg_starts» .entry)) (now («seg_ends» .entry)) (now (selenocysteine .entry))) (record { chromosome = «window_chromosome»; first = «window_first»; bytes = now (window .entry) }) call ⌝ }
+{
+    let scalars = scalars_of(
+        model,
+        exon_starts,
+        exon_ends,
+        seg_phases,
+        seg_exons,
+        seg_starts,
+        seg_ends,
+        selenocysteine,
+        cumulative_exons,
+        cumulative_cds,
+        short,
+    );
+    let strand = model.strand;
+    let codons = selenocysteine_codons(
+        seg_starts,
+        seg_ends,
+        strand,
+        cumulative_cds,
+        selenocysteine,
+    );
+    let selenocysteine_codons = codons.numbers;
+    annotate_admitted(
+        window_chromosome,
+        window_first,
+        window,
+        call,
+        model,
+        exon_starts,
+        exon_ends,
+        seg_phases,
+        seg_exons,
+        seg_starts,
+        seg_ends,
+        selenocysteine,
+        scalars,
+        cumulative_exons,
+        cumulative_cds,
+        &selenocysteine_codons,
+    )
+}
