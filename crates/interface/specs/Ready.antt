@@ -6,9 +6,10 @@ use Rattle.transcript.specs.Transcript.{Transcript}
 use Rattle.transcript.specs.Orient.{oriented}
 use Rattle.transcript.specs.Admission.{admission}
 use Rattle.locate.specs.declared.IndexScalars.{IndexScalars}
-use Rattle.locate.specs.Index.{indexScalars, locateIndex}
+use Rattle.locate.specs.Index.{indexScalars}
+use Rattle.locate.specs.Sums.{ExonSums}
 
 pub record Ready (t : Transcript) (scalars : IndexScalars) (exons : List ℕ) : Type 0 where
   pub admitted : admission t ≡ 0
   pub scalars-are : scalars ≡ indexScalars (oriented t)
-  pub exons-are : exons ≡ locateIndex (oriented t) .«cumulative_exons»
+  pub exons-are : ExonSums (oriented t) exons

@@ -33,8 +33,8 @@ fn put_calls(
     seg_ends: &[u64],
     selenocysteine: &[u64],
     scalars: IndexScalars,
-    cumulative_exons: &[u32; 513],
-    cumulative_cds: &[u32; 513],
+    cumulative_exons: &[u32],
+    cumulative_cds: &[u32],
     selenocysteine_codons: &[u32; 64],
     out: &mut [i64],
 )

@@ -27,7 +27,7 @@ fn put_places(
     seg_ends: &[u64],
     selenocysteine: &[u64],
     scalars: IndexScalars,
-    cumulative_exons: &[u32; 513],
+    cumulative_exons: &[u32],
     out: &mut [i64],
 )
     requires { ⌜ Ready (lent model (now «exon_starts») (now «exon_ends») (now «seg_phases») (now «seg_exons») (now «seg_starts») (now «seg_ends») (now selenocysteine)) scalars (now «cumulative_exons») ⌝ }

@@ -26,7 +26,7 @@ pub(crate) fn locate_position(
     seg_ends: &[u64],
     selenocysteine: &[u64],
     scalars: IndexScalars,
-    cumulative_exons: &[u32; 513],
+    cumulative_exons: &[u32],
 ) -> Located
     requires { ⌜ Ready (lent model (now «exon_starts») (now «exon_ends») (now «seg_phases») (now «seg_exons») (now «seg_starts») (now «seg_ends») (now selenocysteine)) scalars (now «cumulative_exons») ⌝ }
     ensures { λ r. ⌜ r ≡ locatePosition sourceRanges (lent model (now («exon_starts» .entry)) (now («exon_ends» .entry)) (now («seg_phases» .entry)) (now («seg_exons» .entry)) (now («seg_starts» .entry)) (now («seg_ends» .entry)) (now (selenocysteine .entry))) chromosome p ⌝ }

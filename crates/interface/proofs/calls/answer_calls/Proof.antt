@@ -10,7 +10,10 @@ use denote.Ref.{now}
 use Rattle.transcript.specs.Transcript.{Transcript, lent}
 use Rattle.transcript.specs.Admission.{admission}
 use Rattle.transcript.proofs.Asking.{refused-some, number-is, admitted-is}
+use Rattle.transcript.specs.Orient.{oriented}
 use Rattle.locate.specs.declared.LocateIndex.{LocateIndex}
+use Rattle.locate.proofs.LentTranscript.{pad-2}
+use Rattle.locate.proofs.Offset.{index-exons, index-cds}
 use Rattle.consequence.specs.Window.{Window}
 use Rattle.interface.specs.Calls.{callsOf, callsFit, callsWords}
 use Rattle.interface.proofs.Leaving.{misfit, refused, answered}
@@ -77,14 +80,22 @@ returns-2 c =
 index-of-requires : tie.Need-index-of-requires
 index-of-requires c κs = admitted c
 
+slice-aggregate-put-calls : tie.Need-slice-aggregate-put-calls
+slice-aggregate-put-calls c = search needs
+
+slice-aggregate-put-calls-2 : tie.Need-slice-aggregate-put-calls-2
+slice-aggregate-put-calls-2 c = search needs
+
 put-calls-requires : tie.Need-put-calls-requires
 put-calls-requires c κs =
-    let i = c .before .before .before .before .before .before .before .before .index-of .ensures in (
+    let i = c .before .before .before .before .before .before .before .before .index-of .ensures in
+    let a = admitted (c .before .before .before .before .before .before .before .before .before) in
+    let b = start (c .before .before .before .before .before .before .before .before .before .before .before .before) in (
       record {
-        admitted = admitted (c .before .before .before .before .before .before .before .before .before);
+        admitted = a;
         scalars-are = ap (λ (x : LocateIndex). x .scalars) i;
-        exons-are = ap (λ (x : LocateIndex). x .«cumulative_exons») i;
-        segments-are = ap (λ (x : LocateIndex). x .«cumulative_cds») i;
+        exons-are = rw (ap (λ (x : LocateIndex). x .«cumulative_exons») i) (index-exons (oriented (transcript b)));
+        segments-are = rw (ap (λ (x : LocateIndex). x .«cumulative_cds») i) (index-cds (oriented (transcript b)) (pad-2 (b .args .model) (now (b .args .exon-starts)) (now (b .args .exon-ends)) (now (b .args .seg-phases)) (now (b .args .seg-exons)) (now (b .args .seg-starts)) (now (b .args .seg-ends)) (now (b .args .selenocysteine)) a));
         codons-are = ap (λ (x : LocateIndex). x .«selenocysteine_codons») i;
       },
       fit (c .before .before .before .before .before .before .before .before .before .before .before .before),
@@ -113,6 +124,8 @@ answer-calls-spec =
     same-length-2
     returns-2
     index-of-requires
+    slice-aggregate-put-calls
+    slice-aggregate-put-calls-2
     put-calls-requires
     same-length-3
     returns-3)

@@ -75,13 +75,13 @@ more b i l =
     ∙ filled-more (words b) 20 (length-20 b) (calls b) (now (b .args .out)) (room b) i (callOf 0 0 0 0) (rw (count b) l)
 
 loop-holds : tie.Need-loop-holds Inv-loop μ-loop
-loop-holds c = let b = c .before .before .before .before .before .before .before .before .before .before .before .before in (omega arith, filled-none (words b) 20 (length-20 b) (calls b) (now (b .args .out)) (room b))
+loop-holds c = let b = c .before .before .before .before .before .before .before .before .before .before .before .before .before .before in (omega arith, filled-none (words b) 20 (length-20 b) (calls b) (now (b .args .out)) (room b))
 
 mul-t24 : tie.Need-mul-t24 Inv-loop μ-loop
-mul-t24 c = let e = even (c .before .before .before .before .before .before .before .before .before .before .before .before .before .before) .chromosomes in record { fits = omega arith }
+mul-t24 c = let e = even (c .before .before .before .before .before .before .before .before .before .before .before .before .before .before .before .before) .chromosomes in record { fits = omega arith }
 
 shared-slice-read-t27 : tie.Need-shared-slice-read-t27 Inv-loop μ-loop
-shared-slice-read-t27 c = let e = even (c .before .before .before .before .before .before .before .before .before .before .before .before .before .before .before) .chromosomes in omega arith
+shared-slice-read-t27 c = let e = even (c .before .before .before .before .before .before .before .before .before .before .before .before .before .before .before .before .before) .chromosomes in omega arith
 
 mul-t28 : tie.Need-mul-t28 Inv-loop μ-loop
 mul-t28 c = record { fits = omega arith }
@@ -90,20 +90,20 @@ shared-slice-read-t30 : tie.Need-shared-slice-read-t30 Inv-loop μ-loop
 shared-slice-read-t30 c = omega arith
 
 shared-slice-read-t32 : tie.Need-shared-slice-read-t32 Inv-loop μ-loop
-shared-slice-read-t32 c = let e = even (c .before .before .before .before .before .before .before .before .before .before .before .before .before .before .before .before .before) .refs in omega arith
+shared-slice-read-t32 c = let e = even (c .before .before .before .before .before .before .before .before .before .before .before .before .before .before .before .before .before .before .before) .refs in omega arith
 
 shared-slice-read-t34 : tie.Need-shared-slice-read-t34 Inv-loop μ-loop
-shared-slice-read-t34 c = let e = even (c .before .before .before .before .before .before .before .before .before .before .before .before .before .before .before .before .before .before) .alts in omega arith
+shared-slice-read-t34 c = let e = even (c .before .before .before .before .before .before .before .before .before .before .before .before .before .before .before .before .before .before .before .before) .alts in omega arith
 
 annotate-admitted-requires : tie.Need-annotate-admitted-requires Inv-loop μ-loop
-annotate-admitted-requires c κs = c .before .before .before .before .before .before .before .before .before .before .before .before .before .before .before .before .before .before .pre .0
+annotate-admitted-requires c κs = c .before .before .before .before .before .before .before .before .before .before .before .before .before .before .before .before .before .before .before .before .pre .0
 
 mul-put-called : tie.Need-mul-put-called Inv-loop μ-loop
-mul-put-called c = let e = room (c .before .before .before .before .before .before .before .before .before .before .before .before .before .before .before .before .before .before .before .before) in let k = count (c .before .before .before .before .before .before .before .before .before .before .before .before .before .before .before .before .before .before .before .before) in let g = c .before .before .before .before .before .before .before .before .before .before .before .before .before .before .before .before .before .before .before .before .good .1 .1 .1 .1 .1 .1 .1 .1 .1 .1 .1 .1 .1 .1 .1 .1 .1 .1 .1 .0 in record { fits = omega arith }
+mul-put-called c = let e = room (c .before .before .before .before .before .before .before .before .before .before .before .before .before .before .before .before .before .before .before .before .before .before) in let k = count (c .before .before .before .before .before .before .before .before .before .before .before .before .before .before .before .before .before .before .before .before .before .before) in let g = c .before .before .before .before .before .before .before .before .before .before .before .before .before .before .before .before .before .before .before .before .before .before .good .1 .1 .1 .1 .1 .1 .1 .1 .1 .1 .1 .1 .1 .1 .1 .1 .1 .1 .1 .0 in record { fits = omega arith }
 
 put-called-requires : tie.Need-put-called-requires Inv-loop μ-loop
 put-called-requires c κs =
-    let b = c .before .before .before .before .before .before .before .before .before .before .before .before .before .before .before .before .before .before .before .before in
+    let b = c .before .before .before .before .before .before .before .before .before .before .before .before .before .before .before .before .before .before .before .before .before .before in
     let l = c .before .before .before .before .before .before .before .loop in
     let k = ap length (l .inv .1) ∙ long b (l .i) (l .inv .0) in
     let e = room b in
@@ -111,14 +111,14 @@ put-called-requires c κs =
     (omega arith, rw (c .before .annotate-admitted .ensures) (near-called (transcript b) (window b) (asked b (l .i))))
 
 add-i : tie.Need-add-i Inv-loop μ-loop
-add-i c = let g = c .before .before .before .before .before .before .before .before .before .before .before .before .before .before .before .before .before .before .before .before .before .before .good .1 .1 .1 .1 .0 in record { fits = omega arith }
+add-i c = let g = c .before .before .before .before .before .before .before .before .before .before .before .before .before .before .before .before .before .before .before .before .before .before .before .before .good .1 .1 .1 .1 .0 in record { fits = omega arith }
 
 loop-less : tie.Need-loop-less Inv-loop μ-loop
 loop-less c = omega arith
 
 loop-again : tie.Need-loop-again Inv-loop μ-loop
 loop-again c =
-    let b = c .before .before .before .before .before .before .before .before .before .before .before .before .before .before .before .before .before .before .before .before .before .before in
+    let b = c .before .before .before .before .before .before .before .before .before .before .before .before .before .before .before .before .before .before .before .before .before .before .before .before in
     let l = c .before .before .before .before .before .before .before .before .before .loop in (
       omega arith,
       c .before .put-called .ensures
@@ -128,11 +128,11 @@ loop-again c =
     )
 
 same-length : tie.Need-same-length Inv-loop μ-loop
-same-length c = let b = c .before .before .before .before .before .before .before .before .before .before .before .before .before .before in let l = c .before .loop in ap length (l .inv .1) ∙ long b (l .i) (l .inv .0)
+same-length c = let b = c .before .before .before .before .before .before .before .before .before .before .before .before .before .before .before .before in let l = c .before .loop in ap length (l .inv .1) ∙ long b (l .i) (l .inv .0)
 
 returns : tie.Need-returns Inv-loop μ-loop
 returns c =
-    let b = c .before .before .before .before .before .before .before .before .before .before .before .before .before .before in
+    let b = c .before .before .before .before .before .before .before .before .before .before .before .before .before .before .before .before in
     let l = c .before .loop in
     let n = count b in
     l .inv .1 ∙ filled-all (words b) 20 (length-20 b) (calls b) (now (b .args .out)) (room b) (l .i) (omega arith)

@@ -13,7 +13,9 @@ use denote.Ref.{now}
 use Rattle.transcript.specs.Transcript.{Transcript, lent}
 use Rattle.transcript.specs.Admission.{admission}
 use Rattle.transcript.proofs.Asking.{refused-some, number-is, admitted-is}
+use Rattle.transcript.specs.Orient.{oriented}
 use Rattle.locate.specs.declared.LocateIndex.{LocateIndex}
+use Rattle.locate.proofs.Offset.{index-exons}
 use Rattle.interface.specs.Lists.{placesWords}
 use Rattle.interface.proofs.Leaving.{misfit, refused, answered}
 use borrow.Author.Needs.{needs}
@@ -73,13 +75,16 @@ returns-3 c =
 index-of-requires : tie.Need-index-of-requires
 index-of-requires c κs = admitted c
 
+slice-aggregate-put-places : tie.Need-slice-aggregate-put-places
+slice-aggregate-put-places c = search needs
+
 put-places-requires : tie.Need-put-places-requires
 put-places-requires c κs =
     let i = c .before .before .before .before .index-of .ensures in (
       record {
         admitted = admitted (c .before .before .before .before .before);
         scalars-are = ap (λ (x : LocateIndex). x .scalars) i;
-        exons-are = ap (λ (x : LocateIndex). x .«cumulative_exons») i;
+        exons-are = rw (ap (λ (x : LocateIndex). x .«cumulative_exons») i) (index-exons (oriented (transcript (start (c .before .before .before .before .before .before .before .before)))));
       },
       long (c .before .before .before .before .before .before .before .before),
     )
@@ -105,6 +110,7 @@ answer-places-spec =
     refusal-number-requires
     returns-3
     index-of-requires
+    slice-aggregate-put-places
     put-places-requires
     same-length
     returns-4)

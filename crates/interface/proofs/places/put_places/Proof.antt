@@ -51,7 +51,7 @@ more : (b : Start) (i : ℕ) → i < length (now (b .args .positions)) → sets 
 more b i l = filled-more (words b) 8 (even (transcript b) (b .args .chromosome)) (now (b .args .positions)) (now (b .args .out)) (b .pre .1) i 0 l
 
 loop-holds : tie.Need-loop-holds Inv-loop μ-loop
-loop-holds c = let b = c .before .before .before .before .before .before .before .before in (omega arith, filled-none (words b) 8 (even (transcript b) (b .args .chromosome)) (now (b .args .positions)) (now (b .args .out)) (b .pre .1))
+loop-holds c = let b = c .before .before .before .before .before .before .before .before .before in (omega arith, filled-none (words b) 8 (even (transcript b) (b .args .chromosome)) (now (b .args .positions)) (now (b .args .out)) (b .pre .1))
 
 mul-p : tie.Need-mul-p Inv-loop μ-loop
 mul-p c = record { fits = omega arith }
@@ -60,14 +60,14 @@ shared-slice-read-p : tie.Need-shared-slice-read-p Inv-loop μ-loop
 shared-slice-read-p c = omega arith
 
 locate-position-requires : tie.Need-locate-position-requires Inv-loop μ-loop
-locate-position-requires c κs = c .before .before .before .before .before .before .before .before .before .before .before .pre .0
+locate-position-requires c κs = c .before .before .before .before .before .before .before .before .before .before .before .before .pre .0
 
 mul-put-located : tie.Need-mul-put-located Inv-loop μ-loop
 mul-put-located c = record { fits = omega arith }
 
 put-located-requires : tie.Need-put-located-requires Inv-loop μ-loop
 put-located-requires c κs =
-    let b = c .before .before .before .before .before .before .before .before .before .before .before .before .before in
+    let b = c .before .before .before .before .before .before .before .before .before .before .before .before .before .before in
     let l = c .before .before .before .before .loop in
     let k = ap length (l .inv .1) ∙ long b (l .i) (l .inv .0) in
     let e = b .pre .1 in
@@ -81,7 +81,7 @@ loop-less c = omega arith
 
 loop-again : tie.Need-loop-again Inv-loop μ-loop
 loop-again c =
-    let b = c .before .before .before .before .before .before .before .before .before .before .before .before .before .before .before in
+    let b = c .before .before .before .before .before .before .before .before .before .before .before .before .before .before .before .before in
     let l = c .before .before .before .before .before .before .loop in (
       omega arith,
       c .before .put-located .ensures
@@ -91,11 +91,11 @@ loop-again c =
     )
 
 same-length : tie.Need-same-length Inv-loop μ-loop
-same-length c = let b = c .before .before .before .before .before .before .before .before .before .before in let l = c .before .loop in ap length (l .inv .1) ∙ long b (l .i) (l .inv .0)
+same-length c = let b = c .before .before .before .before .before .before .before .before .before .before .before in let l = c .before .loop in ap length (l .inv .1) ∙ long b (l .i) (l .inv .0)
 
 returns : tie.Need-returns Inv-loop μ-loop
 returns c =
-    let b = c .before .before .before .before .before .before .before .before .before .before in
+    let b = c .before .before .before .before .before .before .before .before .before .before .before in
     let l = c .before .loop in
     l .inv .1 ∙ filled-all (words b) 8 (even (transcript b) (b .args .chromosome)) (now (b .args .positions)) (now (b .args .out)) (b .pre .1) (l .i) (omega arith)
 
