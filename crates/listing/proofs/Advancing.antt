@@ -18,9 +18,10 @@ use Rattle.listing.specs.declared.ParsedCall.the-variants.{Read, Malform
 use Rattle.listing.specs.declared.Written.{Written}
 use Rattle.listing.specs.declared.Cursor.{Cursor}
 use Rattle.listing.specs.declared.Listed.{Listed}
+use Rattle.listing.specs.declared.question.Asked.{Asked}
 use Rattle.listing.specs.Calls.{lineLength, parseCall}
 use Rattle.listing.specs.Line.{refusalLine}
-use Rattle.listing.specs.Steps.{Next, line, ended, behindLine, behindTranscript, rowLine, nextCalled, nextParsed, lineAt, nextLine, listed, listedAs, listedTo, left, Advances}
+use Rattle.listing.specs.Steps.{Next, line, ended, behindLine, behindTranscript, rowLine, nextCalled, lineAt, askedParsed, askedAt, nextAsked, nextLine, listed, listedAs, listedTo, left, Advances}
 use Rattle.listing.proofs.Lines.{line-inside}
 
 -- a row at which a transcript stands is one of the table
@@ -60,16 +61,16 @@ module _ (calls : List ℕ) (c : Cursor) where
           here true e = line-advances (rowLine t w (c .number) q (c .row)) (behindTranscript (t .kinds) c (behindLine calls c)) (transcript-less (t .kinds) h e)
           here false e = tt
 
-      parsed-advances : (p : ParsedCall) → c .at < length calls → Advances calls c buffer (listedAs buffer (nextParsed t w c (behindLine calls c) p))
+      parsed-advances : (p : ParsedCall) → c .at < length calls → Advances calls c buffer (listedAs buffer (nextAsked t w c (askedParsed (behindLine calls c) p)))
       parsed-advances (Read q) h = called-advances q h
       parsed-advances Malformed h = line-advances (refusalLine (c .number) 0 26) (behindLine calls c) (line-less h)
 
       next-advances : Advances calls c buffer (listedAs buffer (nextLine t w calls c))
-      unfolding nextLine
+      unfolding nextLine askedAt
       next-advances = here (ltb (c .at) (length calls)) (leb (c .number) 65_536) refl
         where
           here : (a b : Bool) → ltb (c .at) (length calls) ≡ a
-              → Advances calls c buffer (listedAs buffer (cond (a && b) (nextParsed t w c (behindLine calls c) (parseCall (lineAt calls c))) ended))
+              → Advances calls c buffer (listedAs buffer (nextAsked t w c (cond (a && b) (askedParsed (behindLine calls c) (parseCall (lineAt calls c))) Asked.Nothing)))
           here true true e = parsed-advances (parseCall (lineAt calls c)) (ltb-true (c .at) (length calls) e)
           here true false e = tt
           here false b e = tt

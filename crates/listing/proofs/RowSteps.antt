@@ -1,53 +1,35 @@
 -- Steps along the transcripts for one call.
 -- Assumes nothing.
-use Prim.Native.Nat.{ℕ, zero, suc, _+_, _-_, _≤_, _<_}
+use Prim.Native.Nat.{ℕ, zero, suc, _+_, _≤_, _<_}
 use mathlib.Core.Path.{_≡_, refl, sym, _∙_, ap}
 use mathlib.Core.Bool.{Bool, true, false, cond}
 use mathlib.Core.List.{List, [], _∷_, _++_, map}
 use native.Mathlib.Omega.{arith}
-use native.Mathlib.Numerals.{add-one}
-use lib.ListN.{length, take, drop}
-use borrow.Author.Tests.{lt-ltb, le-ltb, le-leb, lt-leb}
+use lib.ListN.{length}
+use borrow.Author.Tests.{le-ltb}
 use Rattle.consequence.specs.declared.Call.{Call}
 use Rattle.consequence.specs.Window.{Window}
 use Rattle.deck.specs.declared.DeckTable.{DeckTable}
 use Rattle.deck.specs.Table.{isKind, rowsAt, rowsFrom}
 use Rattle.deck.proofs.RowOrder.{rows-past}
-use Rattle.listing.specs.declared.ParsedCall.{ParsedCall}
-use Rattle.listing.specs.declared.ParsedCall.the-variants.{Read, Malformed}
+use Rattle.listing.specs.declared.ParsedCall.the-variants.{Read}
 use Rattle.listing.specs.declared.Cursor.{Cursor}
-use Rattle.listing.specs.Calls.{lineLength, parseCall}
-use Rattle.listing.specs.Line.{refusalLine}
-use Rattle.listing.specs.Steps.{Next, line, ended, behindLine, behindTranscript, rowLine, nextCalled, nextParsed, lineAt, nextLine, onward, steps}
+use Rattle.listing.specs.declared.question.Asked.{Asked}
+use Rattle.listing.specs.Calls.{parseCall}
+use Rattle.listing.specs.Steps.{Next, line, ended, behindLine, behindTranscript, rowLine, nextCalled, lineAt, askedParsed, askedAt, nextAsked, nextLine, onward, steps}
+use Rattle.listing.proofs.Asking.{asked-past, asked-inside}
 
--- the next line, by the place of the cursor
+-- the next line, by what the calls have at the cursor
 module _ (t : DeckTable) (w : Window) (calls : List ℕ) (c : Cursor) where
-  pub next-past : length calls ≤ c .at → nextLine t w calls c ≡ ended
+  pub next-asked : {a x : Asked} → a ≡ askedAt calls c → a ≡ x → nextLine t w calls c ≡ nextAsked t w c x
   unfolding nextLine
-  next-past h = rw (le-ltb (c .at) (length calls) h)
+  next-asked e h = rw (sym e, h)
 
-  pub next-many : c .at < length calls → 65_536 < c .number → nextLine t w calls c ≡ ended
-  unfolding nextLine
-  next-many a b = rw (lt-ltb (c .at) (length calls) a, lt-leb (c .number) 65_536 b)
+  next-past : length calls ≤ c .at → nextLine t w calls c ≡ ended
+  next-past h = next-asked refl (asked-past calls c h)
 
-  pub next-inside : c .at < length calls → c .number ≤ 65_536 → nextLine t w calls c ≡ nextParsed t w c (behindLine calls c) (parseCall (lineAt calls c))
-  unfolding nextLine
-  next-inside a b = rw (lt-ltb (c .at) (length calls) a, le-leb (c .number) 65_536 b)
-
-  -- the line that ends at `to`, parsed
-  module _ {to : ℕ} {p : ParsedCall} (a : c .at < length calls) (b : c .number ≤ 65_536) (e : to ≡ c .at + lineLength (drop (c .at) calls))
-      (h : p ≡ parseCall (take (to - c .at) (drop (c .at) calls))) where
-    parsed : p ≡ parseCall (lineAt calls c)
-    parsed = let n : to - c .at ≡ lineLength (drop (c .at) calls) = omega arith in rw n at h
-
-    behind-is : _≡_ {A = Cursor} (behindLine calls c) (record { at = to; number = c .number + 1; row = 0 })
-    behind-is = rw (e, add-one)
-
-    pub next-read : {q : Call} → p ≡ Read q → nextLine t w calls c ≡ nextCalled t w c (record { at = to; number = c .number + 1; row = 0 }) q
-    next-read r = next-inside a b ∙ rw (sym parsed, r, behind-is)
-
-    pub next-malformed : p ≡ Malformed → nextLine t w calls c ≡ line (refusalLine (c .number) 0 26) (record { at = to; number = c .number + 1; row = 0 })
-    next-malformed r = next-inside a b ∙ rw (sym parsed, r, behind-is)
+  pub next-inside : c .at < length calls → c .number ≤ 65_536 → nextLine t w calls c ≡ nextAsked t w c (askedParsed (behindLine calls c) (parseCall (lineAt calls c)))
+  next-inside a b = next-asked refl (asked-inside calls c a b)
 
 -- past the calls no step gives a line
 pub steps-past : (n : ℕ) (t : DeckTable) (w : Window) (calls : List ℕ) (c : Cursor) → length calls ≤ c .at → steps n t w calls c ≡ []

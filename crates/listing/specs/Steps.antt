@@ -16,6 +16,7 @@ use Rattle.listing.specs.declared.ParsedCall.the-variants.{Read, Malform
 use Rattle.listing.specs.declared.Written.{Written}
 use Rattle.listing.specs.declared.Cursor.{Cursor}
 use Rattle.listing.specs.declared.Listed.{Listed}
+use Rattle.listing.specs.declared.question.Asked.{Asked}
 use Rattle.listing.specs.Calls.{lineLength, parseCall}
 use Rattle.listing.specs.Line.{refusalLine, calledLine, writeAnswer, writtenTo}
 
@@ -42,19 +43,29 @@ unfoldable pub nextCalled : DeckTable → Window → Cursor → Cursor → Call 
 nextCalled t w c behind q =
     cond (isKind (t .kinds) transcriptKind (c .row)) (line (rowLine t w (c .number) q (c .row)) (behindTranscript (t .kinds) c behind)) ended
 
--- a line of the calls of another shape gives 26 with id 0
-abbrev pub nextParsed : DeckTable → Window → Cursor → Cursor → ParsedCall → Next
-nextParsed t w c behind (Read q) = nextCalled t w c behind q
-nextParsed t w c behind Malformed = line (refusalLine (c .number) 0 26) behind
-
 -- the line of the calls at the cursor
 abbrev pub lineAt : List ℕ → Cursor → List ℕ
 lineAt calls c = take (lineLength (drop (c .at) calls)) (drop (c .at) calls)
 
--- the next line of the listing; 65,536 bytes have no more lines than that
+-- a parsed line, with the cursor behind it
+abbrev pub askedParsed : Cursor → ParsedCall → Asked
+askedParsed behind (Read q) = Asked.Called q behind
+askedParsed behind Malformed = Asked.Malformed behind
+
+-- what the calls have at the cursor; 65,536 bytes have no more lines than that
+unfoldable pub askedAt : List ℕ → Cursor → Asked
+askedAt calls c =
+    cond (ltb (c .at) (length calls) && leb (c .number) 65_536) (askedParsed (behindLine calls c) (parseCall (lineAt calls c))) Asked.Nothing
+
+-- a line of the calls of another shape gives 26 with id 0
+abbrev pub nextAsked : DeckTable → Window → Cursor → Asked → Next
+nextAsked t w c (Asked.Called q behind) = nextCalled t w c behind q
+nextAsked t w c (Asked.Malformed behind) = line (refusalLine (c .number) 0 26) behind
+nextAsked t w c Asked.Nothing = ended
+
+-- the next line of the listing
 unfoldable pub nextLine : DeckTable → Window → List ℕ → Cursor → Next
-nextLine t w calls c =
-    cond (ltb (c .at) (length calls) && leb (c .number) 65_536) (nextParsed t w c (behindLine calls c) (parseCall (lineAt calls c))) ended
+nextLine t w calls c = nextAsked t w c (askedAt calls c)
 
 -- the answer to a line that was put into the lent buffer, or does not fit
 abbrev pub listed : Written → Cursor → Listed

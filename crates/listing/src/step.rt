@@ -1,21 +1,21 @@
 // The next line of a listing.
 use crate::Cursor;
 use crate::Listed;
-use crate::ParsedCall;
 use crate::Written;
 use crate::called::call_at;
 use crate::called::write_called;
 use crate::line::write_refusal;
-use crate::parse::line_end;
-use crate::parse::parse_call;
+use crate::question::Asked;
+use crate::question::asked_at;
 use consequence::Call;
 use deck::rows::rows_at;
 ghost use mathlib.Core.Path.{_≡_};
 ghost use Rattle.deck.specs.Table.{isKind, rowsAt};
-ghost use Rattle.listing.specs.Steps.{behindTranscript, nextCalled, nextLine, listed, listedAs, listedTo, Advances};
+ghost use Rattle.listing.specs.Line.{refusalLine};
+ghost use Rattle.listing.specs.Steps.{line, behindTranscript, nextCalled, nextLine, listed, listedAs, listedTo, Advances};
 
 // Whether a transcript stands at a row.
-fn is_transcript(kinds: &[u8; 4096], row: usize) -> bool
+pub fn is_transcript(kinds: &[u8; 4096], row: usize) -> bool
     ensures { λ r. ⌜ r ≡ isKind (now (kinds .entry)) 1 row ⌝ }
 {
     if row < 4096 {
@@ -25,7 +25,7 @@ fn is_transcript(kinds: &[u8; 4096], row: usize) -> bool
 }
 
 // The next transcript for the same call, at row `to`, or what stands behind the call's line.
-fn behind_transcript(kinds: &[u8; 4096], to: usize, cursor: Cursor, behind: Cursor) -> Cursor
+pub fn behind_transcript(kinds: &[u8; 4096], to: usize, cursor: Cursor, behind: Cursor) -> Cursor
     ensures { λ r. ⌜ (to ≡ rowsAt (now (kinds .entry)) (cursor .row) .bases → r ≡ behindTranscript (now (kinds .entry)) cursor behind) ⌝ }
 {
     if is_transcript(kinds, to) {
@@ -39,7 +39,7 @@ fn behind_transcript(kinds: &[u8; 4096], to: usize, cursor: Cursor, behind: Curs
 }
 
 // The answer to a line that was put into the buffer, or does not fit.
-fn line_listed(w: Written, next: Cursor) -> Listed
+pub fn line_listed(w: Written, next: Cursor) -> Listed
     ensures { λ r. ⌜ r ≡ listed w next ⌝ }
 {
     match w {
@@ -48,8 +48,16 @@ fn line_listed(w: Written, next: Cursor) -> Listed
     }
 }
 
+// The line of a malformed line of the calls.
+pub fn malformed_line(out: &mut [u8], number: u64, behind: Cursor) -> Listed
+    ensures { λ r. ⌜ (r ≡ listedAs (now (out .entry)) (line (refusalLine number 0 26) behind)) × (now (out .exit) ≡ listedTo (now (out .entry)) (line (refusalLine number 0 26) behind)) ⌝ }
+{
+    let written = write_refusal(out, number, 0, 26);
+    line_listed(written, behind)
+}
+
 // The line of one call for the transcript at the cursor.
-fn next_called(
+pub fn next_called(
     window_chromosome: u16,
     window_first: u64,
     window: &[u8],
@@ -107,23 +115,9 @@ pub fn next_line(
     ensures { λ r. ⌜ (r ≡ listedAs (now (out .entry)) (nextLine (record { kinds = now (kinds .entry); marks = now (marks .entry); ids = now (ids .entry); numbers = now (numbers .entry); starts = now (starts .entry); ends = now (ends .entry) }) (record { chromosome = «window_chromosome»; first = «window_first»; bytes = now (window .entry) }) (now (calls .entry)) cursor)) × (now (out .exit) ≡ listedTo (now (out .entry)) (nextLine (record { kinds = now (kinds .entry); marks = now (marks .entry); ids = now (ids .entry); numbers = now (numbers .entry); starts = now (starts .entry); ends = now (ends .entry) }) (record { chromosome = «window_chromosome»; first = «window_first»; bytes = now (window .entry) }) (now (calls .entry)) cursor)) ⌝ }
     ensures { λ r. ⌜ Advances (now (calls .entry)) cursor (now (out .entry)) r ⌝ }
 {
-    let at = cursor.at;
-    let number = cursor.number;
-    if calls.len() <= at {
-        return Listed::End;
-    }
-    if 65536 < number {
-        return Listed::End;
-    }
-    let to = line_end(calls, at);
-    let behind = Cursor {
-        at: to,
-        number: number + 1,
-        row: 0,
-    };
-    let parsed = parse_call(&calls[at..to]);
-    match parsed {
-        ParsedCall::Read(call) => next_called(
+    let asked = asked_at(calls, cursor);
+    match asked {
+        Asked::Called { call, behind } => next_called(
             window_chromosome,
             window_first,
             window,
@@ -138,9 +132,7 @@ pub fn next_line(
             behind,
             out,
         ),
-        ParsedCall::Malformed => {
-            let written = write_refusal(out, number, 0, 26);
-            line_listed(written, behind)
-        }
+        Asked::Malformed(behind) => malformed_line(out, cursor.number, behind),
+        Asked::Nothing => Listed::End,
     }
 }
