@@ -1,4 +1,6 @@
 // Printing a listing, in large pieces.
+use indexed::index_table;
+use indexed::next_line_indexed;
 use libc::STDOUT_FILENO;
 use listing::Cursor;
 use listing::Listed;
@@ -6,7 +8,6 @@ use listing::Opened;
 use listing::Opening;
 use listing::Written;
 use listing::line::write_refusal;
-use listing::next_line;
 use listing::open_listing;
 ghost use Prim.Native.Nat.{_≤_, _<_};
 ghost use mathlib.Core.Path.{_≡_};
@@ -48,6 +49,14 @@ fn print_lines(opened: Opened, window: &[u8], calls: &[u8], out: &mut [u8])
     let numbers = table.numbers;
     let starts = table.starts;
     let ends = table.ends;
+    let index = index_table(&kinds, &marks, &ids, &numbers, &starts, &ends);
+    let admitted = index.admitted;
+    let short = index.short;
+    let exon_rows = index.exons;
+    let bound_rows = index.bounds;
+    let segment_rows = index.segments;
+    let base_rows = index.bases;
+    let sums = index.sums;
     let from = bases_from(window);
     let bases = &window[from..];
     let mut cursor = Cursor {
@@ -57,7 +66,7 @@ fn print_lines(opened: Opened, window: &[u8], calls: &[u8], out: &mut [u8])
     };
     let mut filled = 0;
     loop {
-        let listed = next_line(
+        let listed = next_line_indexed(
             opened.window_chromosome,
             opened.window_first,
             bases,
@@ -67,6 +76,13 @@ fn print_lines(opened: Opened, window: &[u8], calls: &[u8], out: &mut [u8])
             &numbers,
             &starts,
             &ends,
+            &admitted,
+            &short,
+            &exon_rows,
+            &bound_rows,
+            &segment_rows,
+            &base_rows,
+            &sums,
             calls,
             cursor,
             &mut out[filled..],

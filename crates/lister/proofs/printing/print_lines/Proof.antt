@@ -14,12 +14,15 @@ use Rattle.lister.proofs.printing.print_lines.Statement.{statement}
 use Rattle.lister.proofs.printing.print_lines.Tie as tie
 
 abbrev Inv-loop : tie.InvT-loop
-Inv-loop opened window calls out₀ kinds marks ids numbers starts ends from bases cursor₀ filled₀ out cursor filled =
+Inv-loop opened window calls out₀ kinds marks ids numbers starts ends admitted short exon_rows bound_rows segment_rows base_rows sums from bases cursor₀ filled₀ out cursor filled =
     (filled ≤ length out) × (length out ≡ length out₀)
 
 abbrev μ-loop : tie.MeasureT-loop
-μ-loop opened window calls out₀ kinds marks ids numbers starts ends from bases cursor₀ filled₀ out cursor filled =
+μ-loop opened window calls out₀ kinds marks ids numbers starts ends admitted short exon_rows bound_rows segment_rows base_rows sums from bases cursor₀ filled₀ out cursor filled =
     left calls cursor * 2 + min filled 1
+
+index-table-requires : tie.Need-index-table-requires Inv-loop μ-loop
+index-table-requires c κs = search needs
 
 bases-from-requires : tie.Need-bases-from-requires Inv-loop μ-loop
 bases-from-requires c κs = search needs
@@ -36,130 +39,130 @@ part-bases-end c = omega arith
 loop-holds : tie.Need-loop-holds Inv-loop μ-loop
 loop-holds c = (omega arith, refl)
 
-sub-next-line : tie.Need-sub-next-line Inv-loop μ-loop
-sub-next-line c = c .before .before .before .before .before .before .loop .inv .0
+sub-next-line-indexed : tie.Need-sub-next-line-indexed Inv-loop μ-loop
+sub-next-line-indexed c = c .before .before .before .before .before .before .before .before .before .before .before .before .before .loop .inv .0
 
-part-next-line-start : tie.Need-part-next-line-start Inv-loop μ-loop
-part-next-line-start c = let h = c .before .before .before .before .before .before .loop .inv .0 in omega arith
+part-next-line-indexed-start : tie.Need-part-next-line-indexed-start Inv-loop μ-loop
+part-next-line-indexed-start c = let h = c .before .before .before .before .before .before .before .before .before .before .before .before .before .loop .inv .0 in omega arith
 
-part-next-line-end : tie.Need-part-next-line-end Inv-loop μ-loop
-part-next-line-end c = omega arith
+part-next-line-indexed-end : tie.Need-part-next-line-indexed-end Inv-loop μ-loop
+part-next-line-indexed-end c = omega arith
 
-next-line-requires : tie.Need-next-line-requires Inv-loop μ-loop
-next-line-requires c κs = search needs
+next-line-indexed-requires : tie.Need-next-line-indexed-requires Inv-loop μ-loop
+next-line-indexed-requires c κs = c .before .before .before .before .before .before .before .before .before .before .before .before .before .before .before .before .before .before .before .before .before .before .before .before .index-table .ensures
 
 enum-known-listed : tie.Need-enum-known-listed Inv-loop μ-loop
 enum-known-listed c = search needs
 
 add-filled : tie.Need-add-filled Inv-loop μ-loop
 add-filled c =
-    let f = c .before .before .before .before .before .before .before .before .before .before .before .before .before .loop .filled in
-    let o = c .before .before .before .before .before .before .before .before .before .before .before .before .before .loop .out in
-    let e = same-len-mid f (length o - f) o (c .before .before .before .before .before .next-line .last .1 .1 .1 .1 .1 .1 .1 .1 .1 .1 .1 .0) (c .before .before .before .before .before .next-line .kept .1 .1 .1 .1 .1 .1 .1 .1 .1 .1 .1 .0) in
-    let h = c .before .before .before .before .before .before .before .before .before .before .before .before .before .loop .inv .0 in
-    let a = line-advances (now (c .before .before .before .before .before .before .before .before .before .before .before .before .before .before .before .before .before .before .before .before .before .before .before .before .before .before .args .calls)) (c .before .before .before .before .before .before .before .before .before .before .before .before .before .loop .cursor) (midOf f (length o - f) o) (c .before .listed .given .1) (c .before .before .before .before .before .next-line .ensures .1) in
+    let f = c .before .before .before .before .before .before .before .before .before .before .before .before .before .before .before .before .before .before .before .before .loop .filled in
+    let o = c .before .before .before .before .before .before .before .before .before .before .before .before .before .before .before .before .before .before .before .before .loop .out in
+    let e = same-len-mid f (length o - f) o (c .before .before .before .before .before .next-line-indexed .last .1 .1 .1 .1 .1 .1 .1 .1 .1 .1 .1 .1 .1 .1 .1 .1 .1 .1 .0) (c .before .before .before .before .before .next-line-indexed .kept .1 .1 .1 .1 .1 .1 .1 .1 .1 .1 .1 .1 .1 .1 .1 .1 .1 .1 .0) in
+    let h = c .before .before .before .before .before .before .before .before .before .before .before .before .before .before .before .before .before .before .before .before .loop .inv .0 in
+    let a = line-advances (now (c .before .before .before .before .before .before .before .before .before .before .before .before .before .before .before .before .before .before .before .before .before .before .before .before .before .before .before .before .before .before .before .before .before .before .before .before .before .before .before .before .before .before .before .before .before .before .before .args .calls)) (c .before .before .before .before .before .before .before .before .before .before .before .before .before .before .before .before .before .before .before .before .loop .cursor) (midOf f (length o - f) o) (c .before .listed .given .1) (c .before .before .before .before .before .next-line-indexed .ensures .1) in
     let x = length-drop f o in
     let y = length-take (length o - f) (drop f o) in
     let b = a .0 in
-    let p = c .before .before .before .before .before .before .before .before .before .before .before .before .before .before .before .before .before .before .before .before .before .before .before .before .before .before .pre in
-    let q = c .before .before .before .before .before .before .before .before .before .before .before .before .before .loop .inv .1 in
+    let p = c .before .before .before .before .before .before .before .before .before .before .before .before .before .before .before .before .before .before .before .before .before .before .before .before .before .before .before .before .before .before .before .before .before .before .before .before .before .before .before .before .before .before .before .before .before .before .before .pre in
+    let q = c .before .before .before .before .before .before .before .before .before .before .before .before .before .before .before .before .before .before .before .before .loop .inv .1 in
     omega arith
 
 loop-less : tie.Need-loop-less Inv-loop μ-loop
 loop-less c =
-    less-left (left (now (c .before .before .before .before .before .before .before .before .before .before .before .before .before .before .before .before .before .before .before .before .before .before .before .before .before .before .args .calls)) (c .before .listed .given .0 .1 .0)) (left (now (c .before .before .before .before .before .before .before .before .before .before .before .before .before .before .before .before .before .before .before .before .before .before .before .before .before .before .args .calls)) (c .before .before .before .before .before .before .before .before .before .before .before .before .before .loop .cursor)) (c .before .before .before .before .before .before .before .before .before .before .before .before .before .loop .filled) (c .before .before .before .before .before .before .before .before .before .before .before .before .before .loop .filled + c .before .listed .given .0 .0)
-    (line-advances (now (c .before .before .before .before .before .before .before .before .before .before .before .before .before .before .before .before .before .before .before .before .before .before .before .before .before .before .args .calls)) (c .before .before .before .before .before .before .before .before .before .before .before .before .before .loop .cursor) (midOf (c .before .before .before .before .before .before .before .before .before .before .before .before .before .loop .filled) (length (c .before .before .before .before .before .before .before .before .before .before .before .before .before .loop .out) - c .before .before .before .before .before .before .before .before .before .before .before .before .before .loop .filled) (c .before .before .before .before .before .before .before .before .before .before .before .before .before .loop .out)) (c .before .listed .given .1) (c .before .before .before .before .before .next-line .ensures .1) .1)
+    less-left (left (now (c .before .before .before .before .before .before .before .before .before .before .before .before .before .before .before .before .before .before .before .before .before .before .before .before .before .before .before .before .before .before .before .before .before .before .before .before .before .before .before .before .before .before .before .before .before .before .before .args .calls)) (c .before .listed .given .0 .1 .0)) (left (now (c .before .before .before .before .before .before .before .before .before .before .before .before .before .before .before .before .before .before .before .before .before .before .before .before .before .before .before .before .before .before .before .before .before .before .before .before .before .before .before .before .before .before .before .before .before .before .before .args .calls)) (c .before .before .before .before .before .before .before .before .before .before .before .before .before .before .before .before .before .before .before .before .loop .cursor)) (c .before .before .before .before .before .before .before .before .before .before .before .before .before .before .before .before .before .before .before .before .loop .filled) (c .before .before .before .before .before .before .before .before .before .before .before .before .before .before .before .before .before .before .before .before .loop .filled + c .before .listed .given .0 .0)
+    (line-advances (now (c .before .before .before .before .before .before .before .before .before .before .before .before .before .before .before .before .before .before .before .before .before .before .before .before .before .before .before .before .before .before .before .before .before .before .before .before .before .before .before .before .before .before .before .before .before .before .before .args .calls)) (c .before .before .before .before .before .before .before .before .before .before .before .before .before .before .before .before .before .before .before .before .loop .cursor) (midOf (c .before .before .before .before .before .before .before .before .before .before .before .before .before .before .before .before .before .before .before .before .loop .filled) (length (c .before .before .before .before .before .before .before .before .before .before .before .before .before .before .before .before .before .before .before .before .loop .out) - c .before .before .before .before .before .before .before .before .before .before .before .before .before .before .before .before .before .before .before .before .loop .filled) (c .before .before .before .before .before .before .before .before .before .before .before .before .before .before .before .before .before .before .before .before .loop .out)) (c .before .listed .given .1) (c .before .before .before .before .before .next-line-indexed .ensures .1) .1)
 
 loop-again : tie.Need-loop-again Inv-loop μ-loop
 loop-again c =
-    let f = c .before .before .before .before .before .before .before .before .before .before .before .before .before .loop .filled in
-    let o = c .before .before .before .before .before .before .before .before .before .before .before .before .before .loop .out in
-    let e = same-len-mid f (length o - f) o (c .before .before .before .before .before .next-line .last .1 .1 .1 .1 .1 .1 .1 .1 .1 .1 .1 .0) (c .before .before .before .before .before .next-line .kept .1 .1 .1 .1 .1 .1 .1 .1 .1 .1 .1 .0) in
-    let h = c .before .before .before .before .before .before .before .before .before .before .before .before .before .loop .inv .0 in
-    let a = line-advances (now (c .before .before .before .before .before .before .before .before .before .before .before .before .before .before .before .before .before .before .before .before .before .before .before .before .before .before .args .calls)) (c .before .before .before .before .before .before .before .before .before .before .before .before .before .loop .cursor) (midOf f (length o - f) o) (c .before .listed .given .1) (c .before .before .before .before .before .next-line .ensures .1) in
+    let f = c .before .before .before .before .before .before .before .before .before .before .before .before .before .before .before .before .before .before .before .before .loop .filled in
+    let o = c .before .before .before .before .before .before .before .before .before .before .before .before .before .before .before .before .before .before .before .before .loop .out in
+    let e = same-len-mid f (length o - f) o (c .before .before .before .before .before .next-line-indexed .last .1 .1 .1 .1 .1 .1 .1 .1 .1 .1 .1 .1 .1 .1 .1 .1 .1 .1 .0) (c .before .before .before .before .before .next-line-indexed .kept .1 .1 .1 .1 .1 .1 .1 .1 .1 .1 .1 .1 .1 .1 .1 .1 .1 .1 .0) in
+    let h = c .before .before .before .before .before .before .before .before .before .before .before .before .before .before .before .before .before .before .before .before .loop .inv .0 in
+    let a = line-advances (now (c .before .before .before .before .before .before .before .before .before .before .before .before .before .before .before .before .before .before .before .before .before .before .before .before .before .before .before .before .before .before .before .before .before .before .before .before .before .before .before .before .before .before .before .before .before .before .before .args .calls)) (c .before .before .before .before .before .before .before .before .before .before .before .before .before .before .before .before .before .before .before .before .loop .cursor) (midOf f (length o - f) o) (c .before .listed .given .1) (c .before .before .before .before .before .next-line-indexed .ensures .1) in
     let x = length-drop f o in
     let y = length-take (length o - f) (drop f o) in
     let b = a .0 in
-    (omega arith, e ∙ c .before .before .before .before .before .before .before .before .before .before .before .before .before .loop .inv .1)
+    (omega arith, e ∙ c .before .before .before .before .before .before .before .before .before .before .before .before .before .before .before .before .before .before .before .before .loop .inv .1)
 
 enum-told : tie.Need-enum-told Inv-loop μ-loop
 enum-told c = search needs
 
 slice-reshare-prefix-flush : tie.Need-slice-reshare-prefix-flush Inv-loop μ-loop
 slice-reshare-prefix-flush c =
-    let f = c .before .before .before .before .before .before .before .before .before .before .before .before .loop .filled in
-    let o = c .before .before .before .before .before .before .before .before .before .before .before .before .loop .out in
-    let e = same-len-mid f (length o - f) o (c .before .before .before .before .next-line .last .1 .1 .1 .1 .1 .1 .1 .1 .1 .1 .1 .0) (c .before .before .before .before .next-line .kept .1 .1 .1 .1 .1 .1 .1 .1 .1 .1 .1 .0) in
-    let h = c .before .before .before .before .before .before .before .before .before .before .before .before .loop .inv .0 in
+    let f = c .before .before .before .before .before .before .before .before .before .before .before .before .before .before .before .before .before .before .before .loop .filled in
+    let o = c .before .before .before .before .before .before .before .before .before .before .before .before .before .before .before .before .before .before .before .loop .out in
+    let e = same-len-mid f (length o - f) o (c .before .before .before .before .next-line-indexed .last .1 .1 .1 .1 .1 .1 .1 .1 .1 .1 .1 .1 .1 .1 .1 .1 .1 .1 .0) (c .before .before .before .before .next-line-indexed .kept .1 .1 .1 .1 .1 .1 .1 .1 .1 .1 .1 .1 .1 .1 .1 .1 .1 .1 .0) in
+    let h = c .before .before .before .before .before .before .before .before .before .before .before .before .before .before .before .before .before .before .before .loop .inv .0 in
     omega arith
 
 slice-aggregate-flush : tie.Need-slice-aggregate-flush Inv-loop μ-loop
 slice-aggregate-flush c =
-    let f = c .before .before .before .before .before .before .before .before .before .before .before .before .before .loop .filled in
-    let o = c .before .before .before .before .before .before .before .before .before .before .before .before .before .loop .out in
-    let e = same-len-mid f (length o - f) o (c .before .before .before .before .before .next-line .last .1 .1 .1 .1 .1 .1 .1 .1 .1 .1 .1 .0) (c .before .before .before .before .before .next-line .kept .1 .1 .1 .1 .1 .1 .1 .1 .1 .1 .1 .0) in
-    let h = c .before .before .before .before .before .before .before .before .before .before .before .before .before .loop .inv .0 in
-    sym (length-take-le f (putMid f (length o - f) o (c .before .before .before .before .before .next-line .last .1 .1 .1 .1 .1 .1 .1 .1 .1 .1 .1 .0)) (omega arith))
+    let f = c .before .before .before .before .before .before .before .before .before .before .before .before .before .before .before .before .before .before .before .before .loop .filled in
+    let o = c .before .before .before .before .before .before .before .before .before .before .before .before .before .before .before .before .before .before .before .before .loop .out in
+    let e = same-len-mid f (length o - f) o (c .before .before .before .before .before .next-line-indexed .last .1 .1 .1 .1 .1 .1 .1 .1 .1 .1 .1 .1 .1 .1 .1 .1 .1 .1 .0) (c .before .before .before .before .before .next-line-indexed .kept .1 .1 .1 .1 .1 .1 .1 .1 .1 .1 .1 .1 .1 .1 .1 .1 .1 .1 .0) in
+    let h = c .before .before .before .before .before .before .before .before .before .before .before .before .before .before .before .before .before .before .before .before .loop .inv .0 in
+    sym (length-take-le f (putMid f (length o - f) o (c .before .before .before .before .before .next-line-indexed .last .1 .1 .1 .1 .1 .1 .1 .1 .1 .1 .1 .1 .1 .1 .1 .1 .1 .1 .0)) (omega arith))
 
 flush-requires : tie.Need-flush-requires Inv-loop μ-loop
 flush-requires c κs = search needs
 
 same-length : tie.Need-same-length Inv-loop μ-loop
 same-length c =
-    let f = c .before .before .before .before .before .before .before .before .before .before .before .before .before .before .before .loop .filled in
-    let o = c .before .before .before .before .before .before .before .before .before .before .before .before .before .before .before .loop .out in
-    let e = same-len-mid f (length o - f) o (c .before .before .before .before .before .before .before .next-line .last .1 .1 .1 .1 .1 .1 .1 .1 .1 .1 .1 .0) (c .before .before .before .before .before .before .before .next-line .kept .1 .1 .1 .1 .1 .1 .1 .1 .1 .1 .1 .0) in
-    let h = c .before .before .before .before .before .before .before .before .before .before .before .before .before .before .before .loop .inv .0 in
-    e ∙ c .before .before .before .before .before .before .before .before .before .before .before .before .before .before .before .loop .inv .1
+    let f = c .before .before .before .before .before .before .before .before .before .before .before .before .before .before .before .before .before .before .before .before .before .before .loop .filled in
+    let o = c .before .before .before .before .before .before .before .before .before .before .before .before .before .before .before .before .before .before .before .before .before .before .loop .out in
+    let e = same-len-mid f (length o - f) o (c .before .before .before .before .before .before .before .next-line-indexed .last .1 .1 .1 .1 .1 .1 .1 .1 .1 .1 .1 .1 .1 .1 .1 .1 .1 .1 .0) (c .before .before .before .before .before .before .before .next-line-indexed .kept .1 .1 .1 .1 .1 .1 .1 .1 .1 .1 .1 .1 .1 .1 .1 .1 .1 .1 .0) in
+    let h = c .before .before .before .before .before .before .before .before .before .before .before .before .before .before .before .before .before .before .before .before .before .before .loop .inv .0 in
+    e ∙ c .before .before .before .before .before .before .before .before .before .before .before .before .before .before .before .before .before .before .before .before .before .before .loop .inv .1
 
 returns : tie.Need-returns Inv-loop μ-loop
 returns c = tt
 
 loop-less-2 : tie.Need-loop-less-2 Inv-loop μ-loop
 loop-less-2 c =
-    let f = c .before .before .before .before .before .before .before .before .before .before .before .before .before .before .before .loop .filled in
-    let o = c .before .before .before .before .before .before .before .before .before .before .before .before .before .before .before .loop .out in
-    let e = same-len-mid f (length o - f) o (c .before .before .before .before .before .before .before .next-line .last .1 .1 .1 .1 .1 .1 .1 .1 .1 .1 .1 .0) (c .before .before .before .before .before .before .before .next-line .kept .1 .1 .1 .1 .1 .1 .1 .1 .1 .1 .1 .0) in
-    let h = c .before .before .before .before .before .before .before .before .before .before .before .before .before .before .before .loop .inv .0 in
-    less-held (left (now (c .before .before .before .before .before .before .before .before .before .before .before .before .before .before .before .before .before .before .before .before .before .before .before .before .before .before .before .before .args .calls)) (c .before .before .before .before .before .before .before .before .before .before .before .before .before .before .before .loop .cursor)) f (subst (λ (n : ℕ). 0 < n) (length-take-le f (putMid f (length o - f) o (c .before .before .before .before .before .before .before .next-line .last .1 .1 .1 .1 .1 .1 .1 .1 .1 .1 .1 .0)) (omega arith)) (c .before .flush .ensures (is-true (c .before .flush .result) (c .if1 .left))))
+    let f = c .before .before .before .before .before .before .before .before .before .before .before .before .before .before .before .before .before .before .before .before .before .before .loop .filled in
+    let o = c .before .before .before .before .before .before .before .before .before .before .before .before .before .before .before .before .before .before .before .before .before .before .loop .out in
+    let e = same-len-mid f (length o - f) o (c .before .before .before .before .before .before .before .next-line-indexed .last .1 .1 .1 .1 .1 .1 .1 .1 .1 .1 .1 .1 .1 .1 .1 .1 .1 .1 .0) (c .before .before .before .before .before .before .before .next-line-indexed .kept .1 .1 .1 .1 .1 .1 .1 .1 .1 .1 .1 .1 .1 .1 .1 .1 .1 .1 .0) in
+    let h = c .before .before .before .before .before .before .before .before .before .before .before .before .before .before .before .before .before .before .before .before .before .before .loop .inv .0 in
+    less-held (left (now (c .before .before .before .before .before .before .before .before .before .before .before .before .before .before .before .before .before .before .before .before .before .before .before .before .before .before .before .before .before .before .before .before .before .before .before .before .before .before .before .before .before .before .before .before .before .before .before .before .before .args .calls)) (c .before .before .before .before .before .before .before .before .before .before .before .before .before .before .before .before .before .before .before .before .before .before .loop .cursor)) f (subst (λ (n : ℕ). 0 < n) (length-take-le f (putMid f (length o - f) o (c .before .before .before .before .before .before .before .next-line-indexed .last .1 .1 .1 .1 .1 .1 .1 .1 .1 .1 .1 .1 .1 .1 .1 .1 .1 .1 .0)) (omega arith)) (c .before .flush .ensures (is-true (c .before .flush .result) (c .if1 .left))))
 
 loop-again-2 : tie.Need-loop-again-2 Inv-loop μ-loop
 loop-again-2 c =
-    let f = c .before .before .before .before .before .before .before .before .before .before .before .before .before .before .before .loop .filled in
-    let o = c .before .before .before .before .before .before .before .before .before .before .before .before .before .before .before .loop .out in
-    let e = same-len-mid f (length o - f) o (c .before .before .before .before .before .before .before .next-line .last .1 .1 .1 .1 .1 .1 .1 .1 .1 .1 .1 .0) (c .before .before .before .before .before .before .before .next-line .kept .1 .1 .1 .1 .1 .1 .1 .1 .1 .1 .1 .0) in
-    let h = c .before .before .before .before .before .before .before .before .before .before .before .before .before .before .before .loop .inv .0 in
-    (omega arith, e ∙ c .before .before .before .before .before .before .before .before .before .before .before .before .before .before .before .loop .inv .1)
+    let f = c .before .before .before .before .before .before .before .before .before .before .before .before .before .before .before .before .before .before .before .before .before .before .loop .filled in
+    let o = c .before .before .before .before .before .before .before .before .before .before .before .before .before .before .before .before .before .before .before .before .before .before .loop .out in
+    let e = same-len-mid f (length o - f) o (c .before .before .before .before .before .before .before .next-line-indexed .last .1 .1 .1 .1 .1 .1 .1 .1 .1 .1 .1 .1 .1 .1 .1 .1 .1 .1 .0) (c .before .before .before .before .before .before .before .next-line-indexed .kept .1 .1 .1 .1 .1 .1 .1 .1 .1 .1 .1 .1 .1 .1 .1 .1 .1 .1 .0) in
+    let h = c .before .before .before .before .before .before .before .before .before .before .before .before .before .before .before .before .before .before .before .before .before .before .loop .inv .0 in
+    (omega arith, e ∙ c .before .before .before .before .before .before .before .before .before .before .before .before .before .before .before .before .before .before .before .before .before .before .loop .inv .1)
 
 enum-told-2 : tie.Need-enum-told-2 Inv-loop μ-loop
 enum-told-2 c = search needs
 
 slice-reshare-prefix-flush-2 : tie.Need-slice-reshare-prefix-flush-2 Inv-loop μ-loop
 slice-reshare-prefix-flush-2 c =
-    let f = c .before .before .before .before .before .before .before .before .before .before .before .before .loop .filled in
-    let o = c .before .before .before .before .before .before .before .before .before .before .before .before .loop .out in
-    let e = same-len-mid f (length o - f) o (c .before .before .before .before .next-line .last .1 .1 .1 .1 .1 .1 .1 .1 .1 .1 .1 .0) (c .before .before .before .before .next-line .kept .1 .1 .1 .1 .1 .1 .1 .1 .1 .1 .1 .0) in
-    let h = c .before .before .before .before .before .before .before .before .before .before .before .before .loop .inv .0 in
+    let f = c .before .before .before .before .before .before .before .before .before .before .before .before .before .before .before .before .before .before .before .loop .filled in
+    let o = c .before .before .before .before .before .before .before .before .before .before .before .before .before .before .before .before .before .before .before .loop .out in
+    let e = same-len-mid f (length o - f) o (c .before .before .before .before .next-line-indexed .last .1 .1 .1 .1 .1 .1 .1 .1 .1 .1 .1 .1 .1 .1 .1 .1 .1 .1 .0) (c .before .before .before .before .next-line-indexed .kept .1 .1 .1 .1 .1 .1 .1 .1 .1 .1 .1 .1 .1 .1 .1 .1 .1 .1 .0) in
+    let h = c .before .before .before .before .before .before .before .before .before .before .before .before .before .before .before .before .before .before .before .loop .inv .0 in
     omega arith
 
 slice-aggregate-flush-2 : tie.Need-slice-aggregate-flush-2 Inv-loop μ-loop
 slice-aggregate-flush-2 c =
-    let f = c .before .before .before .before .before .before .before .before .before .before .before .before .before .loop .filled in
-    let o = c .before .before .before .before .before .before .before .before .before .before .before .before .before .loop .out in
-    let e = same-len-mid f (length o - f) o (c .before .before .before .before .before .next-line .last .1 .1 .1 .1 .1 .1 .1 .1 .1 .1 .1 .0) (c .before .before .before .before .before .next-line .kept .1 .1 .1 .1 .1 .1 .1 .1 .1 .1 .1 .0) in
-    let h = c .before .before .before .before .before .before .before .before .before .before .before .before .before .loop .inv .0 in
-    sym (length-take-le f (putMid f (length o - f) o (c .before .before .before .before .before .next-line .last .1 .1 .1 .1 .1 .1 .1 .1 .1 .1 .1 .0)) (omega arith))
+    let f = c .before .before .before .before .before .before .before .before .before .before .before .before .before .before .before .before .before .before .before .before .loop .filled in
+    let o = c .before .before .before .before .before .before .before .before .before .before .before .before .before .before .before .before .before .before .before .before .loop .out in
+    let e = same-len-mid f (length o - f) o (c .before .before .before .before .before .next-line-indexed .last .1 .1 .1 .1 .1 .1 .1 .1 .1 .1 .1 .1 .1 .1 .1 .1 .1 .1 .0) (c .before .before .before .before .before .next-line-indexed .kept .1 .1 .1 .1 .1 .1 .1 .1 .1 .1 .1 .1 .1 .1 .1 .1 .1 .1 .0) in
+    let h = c .before .before .before .before .before .before .before .before .before .before .before .before .before .before .before .before .before .before .before .before .loop .inv .0 in
+    sym (length-take-le f (putMid f (length o - f) o (c .before .before .before .before .before .next-line-indexed .last .1 .1 .1 .1 .1 .1 .1 .1 .1 .1 .1 .1 .1 .1 .1 .1 .1 .1 .0)) (omega arith))
 
 flush-requires-2 : tie.Need-flush-requires-2 Inv-loop μ-loop
 flush-requires-2 c κs = search needs
 
 same-length-2 : tie.Need-same-length-2 Inv-loop μ-loop
 same-length-2 c =
-    let f = c .before .before .before .before .before .before .before .before .before .before .before .before .before .before .loop .filled in
-    let o = c .before .before .before .before .before .before .before .before .before .before .before .before .before .before .loop .out in
-    let e = same-len-mid f (length o - f) o (c .before .before .before .before .before .before .next-line .last .1 .1 .1 .1 .1 .1 .1 .1 .1 .1 .1 .0) (c .before .before .before .before .before .before .next-line .kept .1 .1 .1 .1 .1 .1 .1 .1 .1 .1 .1 .0) in
-    let h = c .before .before .before .before .before .before .before .before .before .before .before .before .before .before .loop .inv .0 in
-    e ∙ c .before .before .before .before .before .before .before .before .before .before .before .before .before .before .loop .inv .1
+    let f = c .before .before .before .before .before .before .before .before .before .before .before .before .before .before .before .before .before .before .before .before .before .loop .filled in
+    let o = c .before .before .before .before .before .before .before .before .before .before .before .before .before .before .before .before .before .before .before .before .before .loop .out in
+    let e = same-len-mid f (length o - f) o (c .before .before .before .before .before .before .next-line-indexed .last .1 .1 .1 .1 .1 .1 .1 .1 .1 .1 .1 .1 .1 .1 .1 .1 .1 .1 .0) (c .before .before .before .before .before .before .next-line-indexed .kept .1 .1 .1 .1 .1 .1 .1 .1 .1 .1 .1 .1 .1 .1 .1 .1 .1 .1 .0) in
+    let h = c .before .before .before .before .before .before .before .before .before .before .before .before .before .before .before .before .before .before .before .before .before .loop .inv .0 in
+    e ∙ c .before .before .before .before .before .before .before .before .before .before .before .before .before .before .before .before .before .before .before .before .before .loop .inv .1
 
 returns-2 : tie.Need-returns-2 Inv-loop μ-loop
 returns-2 c = tt
@@ -170,15 +173,16 @@ print-lines-spec =
     (tie.spec
     Inv-loop
     μ-loop
+    index-table-requires
     bases-from-requires
     sub-bases
     part-bases-start
     part-bases-end
     loop-holds
-    sub-next-line
-    part-next-line-start
-    part-next-line-end
-    next-line-requires
+    sub-next-line-indexed
+    part-next-line-indexed-start
+    part-next-line-indexed-end
+    next-line-indexed-requires
     enum-known-listed
     add-filled
     loop-less

@@ -1,0 +1,4 @@
+pub mod IndexSums
+pub mod IndexRows
+pub mod IndexTable
+pub mod IndexedCalls

@@ -1,0 +1,99 @@
+// A call on a transcript of an indexed table.
+use consequence::Call;
+use consequence::Called;
+use consequence::annotate_summed;
+use deck::rows::Rows;
+use deck::rows::model_in;
+ghost use mathlib.Core.Path.{_≡_};
+ghost use Prim.Native.Nat.{_<_};
+ghost use lib.ListN.{getD, drop};
+ghost use Rattle.footprint.specs.Ranges.{sourceRanges};
+ghost use Rattle.consequence.specs.Call.{annotateSnv};
+ghost use Rattle.consequence.specs.Prepared.{Summed};
+ghost use Rattle.deck.specs.Table.{InOrder, transcriptIn};
+ghost use Rattle.indexed.specs.TableIndex.{cdsRow};
+
+fn widened(n: u16) -> usize
+    ensures { λ r. ⌜ r ≡ n ⌝ }
+{
+    n as usize
+}
+
+// The rows of the transcript at row k, from the columns.
+pub(crate) fn rows_in(
+    exons: &[u16; 4096],
+    bounds: &[u16; 4096],
+    segments: &[u16; 4096],
+    bases: &[u16; 4096],
+    k: usize,
+) -> Rows
+    requires { ⌜ k < 4096 ⌝ }
+    ensures { λ r. ⌜ r ≡ record { exons = getD (now (exons .entry)) k 0; bounds = getD (now (bounds .entry)) k 0; segments = getD (now (segments .entry)) k 0; bases = getD (now (bases .entry)) k 0 } ⌝ }
+{
+    Rows {
+        exons: widened(exons[k]),
+        bounds: widened(bounds[k]),
+        segments: widened(segments[k]),
+        bases: widened(bases[k]),
+    }
+}
+
+// Where the sums of the CDS begin.
+fn cds_row(k: usize, rows: Rows) -> usize
+    ensures { λ r. ⌜ r ≡ cdsRow k rows ⌝ }
+{
+    if rows.bounds == rows.exons {
+        return k;
+    }
+    rows.exons
+}
+
+// The answer to a call on the admitted transcript at row k.
+pub(crate) fn call_indexed(
+    window_chromosome: u16,
+    window_first: u64,
+    window: &[u8],
+    call: Call,
+    marks: &[u8; 4096],
+    ids: &[u32; 4096],
+    numbers: &[u16; 4096],
+    starts: &[u64; 4096],
+    ends: &[u64; 4096],
+    sums: &[u32; 4096],
+    k: usize,
+    rows: Rows,
+    short: bool,
+) -> Called
+    requires { ⌜ InOrder k rows ⌝ }
+    requires { ⌜ Summed (transcriptIn (now marks) (now ids) (now numbers) (now starts) (now ends) k rows) (drop k (now sums)) (drop (cdsRow k rows) (now sums)) short ⌝ }
+    ensures { λ r. ⌜ r ≡ annotateSnv sourceRanges (transcriptIn (now (marks .entry)) (now (ids .entry)) (now (numbers .entry)) (now (starts .entry)) (now (ends .entry)) k rows) (record { chromosome = «window_chromosome»; first = «window_first»; bytes = now (window .entry) }) call ⌝ }
+{
+    let from = k + 1;
+    let exons = rows.exons;
+    let bounds = rows.bounds;
+    let segments = rows.segments;
+    let bases = rows.bases;
+    let coding = cds_row(k, rows);
+    let all_marks = &marks[..];
+    let all_numbers = &numbers[..];
+    let all_starts = &starts[..];
+    let all_ends = &ends[..];
+    let all_sums = &sums[..];
+    annotate_summed(
+        window_chromosome,
+        window_first,
+        window,
+        call,
+        model_in(marks, ids, numbers, starts, ends, k, rows),
+        &all_starts[from..exons],
+        &all_ends[from..exons],
+        &all_marks[bounds..segments],
+        &all_numbers[bounds..segments],
+        &all_starts[bounds..segments],
+        &all_ends[bounds..segments],
+        &all_starts[segments..bases],
+        &all_sums[k..],
+        &all_sums[coding..],
+        short,
+    )
+}
