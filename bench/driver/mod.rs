@@ -23,7 +23,12 @@ pub fn run() -> ExitCode {
             }
         }
         ["time"] => time::run(),
-        ["spin", what, exons] if time::spin(what, exons.parse().unwrap_or(1)) => {}
+        ["spin", what, exons] | ["spin", what, exons, _] => {
+            let rounds = words.get(3).and_then(|rounds| rounds.parse().ok());
+            if !time::spin(what, exons.parse().unwrap_or(1), rounds) {
+                return usage();
+            }
+        }
         _ => return usage(),
     }
     ExitCode::SUCCESS
@@ -31,7 +36,7 @@ pub fn run() -> ExitCode {
 
 fn usage() -> ExitCode {
     eprintln!(
-        "usage: compare COUNT [SEED] | time | spin admit|index|place|places|call|calls EXONS"
+        "usage: compare COUNT [SEED] | time | spin admit|index|place|places|call|calls EXONS [ROUNDS]"
     );
     ExitCode::FAILURE
 }

@@ -193,20 +193,25 @@ fn time_places(count: u32, c: &Case, order: &str, places: &[u64]) {
     line(&format!("place, single, {order}"), count, theirs, ours);
 }
 
+/// One call to the Rust, with an index that it has.
+fn rust_call(c: &Case, index: &LocateIndex, (at, reference, alt): (u64, u8, u8)) {
+    let model = &c.subject.model;
+    let result = annotate_snv_verified(
+        &model.chrom,
+        black_box(at),
+        reference,
+        alt,
+        model,
+        index,
+        &c.fasta,
+    );
+    let _ = black_box(result.expect("an answer"));
+}
+
 fn time_calls(count: u32, strand: &str, c: &Case) {
-    let (model, index) = (&c.subject.model, &c.subject.index);
     let theirs = best(MANY, || {
-        for &(at, reference, alt) in &c.calls {
-            let result = annotate_snv_verified(
-                &model.chrom,
-                black_box(at),
-                reference,
-                alt,
-                model,
-                index,
-                &c.fasta,
-            );
-            let _ = black_box(result.expect("an answer"));
+        for &call in &c.calls {
+            rust_call(c, &c.subject.index, call);
         }
     });
     let t = c.lent.transcript();
@@ -219,18 +224,9 @@ fn time_calls(count: u32, strand: &str, c: &Case) {
     line(&format!("exonic call, list, {strand}"), count, theirs, ours);
     let few = &c.calls[..256];
     let theirs = best(few.len(), || {
-        for &(at, reference, alt) in few {
+        for &call in few {
             let index = build(&c.subject);
-            let result = annotate_snv_verified(
-                &model.chrom,
-                black_box(at),
-                reference,
-                alt,
-                model,
-                &index,
-                &c.fasta,
-            );
-            let _ = black_box(result.expect("an answer"));
+            rust_call(c, &index, call);
         }
     });
     let ours = best(few.len(), || {
@@ -249,8 +245,8 @@ fn time_calls(count: u32, strand: &str, c: &Case) {
     );
 }
 
-/// One kind of question to the proved library for some seconds, for a profiler.
-pub fn spin(what: &str, count: u32) -> bool {
+/// One kind of question to the proved library, for a profiler: some seconds, or a number of rounds.
+pub fn spin(what: &str, count: u32, rounds: Option<u32>) -> bool {
     let c = case(&mut Rng::new(11), count, true);
     let t = c.lent.transcript();
     let lists = lists(&c);
@@ -264,11 +260,14 @@ pub fn spin(what: &str, count: u32) -> bool {
         "calls" => Box::new(|| proved_calls(&t, &c.fasta, black_box(&lists), &mut out)),
         _ => return false,
     };
+    let mut ask = |times| (0..times).for_each(|_| assert_eq!(work(), 0));
+    if let Some(times) = rounds {
+        ask(times);
+        return true;
+    }
     let begin = Instant::now();
     while begin.elapsed().as_secs() < 3 {
-        for _ in 0..100 {
-            assert_eq!(work(), 0);
-        }
+        ask(100);
     }
     true
 }
