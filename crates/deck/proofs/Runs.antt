@@ -9,12 +9,10 @@ use Rattle.transcript.specs.declared.Strand.{Strand}
 use Rattle.transcript.specs.declared.Exon.{Exon}
 use Rattle.transcript.specs.declared.CdsBounds.{CdsBounds}
 use Rattle.transcript.specs.declared.TranscriptModel.{TranscriptModel}
-use Rattle.transcript.specs.declared.Admission.{Admission}
-use Rattle.transcript.specs.Transcript.{lent}
-use Rattle.transcript.specs.Admission.{admissionOf}
+use Rattle.transcript.specs.Transcript.{exonsOf, lent}
 use Rattle.deck.specs.declared.rows.Rows.{Rows}
 use Rattle.deck.specs.Deck.{strandOf, startComplete, txBounds}
-use Rattle.deck.specs.Table.{runEnd, boundsEnd, rowsAt, part, exonsIn, boundsBetween, modelIn, transcriptIn}
+use Rattle.deck.specs.Table.{runEnd, boundsEnd, rowsAt, part, boundsBetween, modelIn, transcriptIn}
 
 pub rows-made : (kinds : List ℕ) (k : ℕ) {a b g s : ℕ} → a ≡ runEnd kinds 3 (k + 1) → b ≡ boundsEnd kinds a → g ≡ runEnd kinds 4 b → s ≡ runEnd kinds 5 g
     → _≡_ {A = Rows} (record { exons = a; bounds = b; segments = g; bases = s }) (rowsAt kinds k)
@@ -22,7 +20,8 @@ unfolding rowsAt
 rows-made kinds k ea eb eg es = rw (es, eg, eb, ea)
 
 module _ (marks ids numbers starts ends : List ℕ) (k : ℕ) (r : Rows) where
-  pub model-made : {σ : Strand} {x : Exon} {cds : CdsBounds} {complete : Bool} → σ ≡ strandOf (getD marks k 0) → x ≡ txBounds σ (exonsIn starts ends k r)
+  pub model-made : {σ : Strand} {x : Exon} {cds : CdsBounds} {complete : Bool} {s e : List ℕ} → s ≡ part (k + 1) (r .exons) starts → e ≡ part (k + 1) (r .exons) ends
+      → σ ≡ strandOf (getD marks k 0) → x ≡ txBounds σ (exonsOf s e)
       → cds ≡ boundsBetween starts ends (r .exons) (r .bounds) → complete ≡ startComplete (getD marks k 0)
       → _≡_ {A = TranscriptModel} (record {
         id = getD ids k 0;
@@ -35,12 +34,13 @@ module _ (marks ids numbers starts ends : List ℕ) (k : ℕ) (r : Rows) where
         «cds_start_complete» = complete;
       }) (modelIn marks ids numbers starts ends k r)
   unfolding modelIn
-  model-made es ex ec ed = rw (ex, es, ec, ed)
+  model-made es ee ed ex ec eo = rw (ex, es, ee, ed, ec, eo)
 
-  pub row-made : {m : TranscriptModel} {a : Admission} → m ≡ modelIn marks ids numbers starts ends k r
-      → a ≡ admissionOf (lent m (part (k + 1) (r .exons) starts) (part (k + 1) (r .exons) ends)
-      (part (r .bounds) (r .segments) marks) (part (r .bounds) (r .segments) numbers) (part (r .bounds) (r .segments) starts)
-      (part (r .bounds) (r .segments) ends) (part (r .segments) (r .bases) starts))
-      → a ≡ admissionOf (transcriptIn marks ids numbers starts ends k r)
+  -- a transcript lent part by part
+  pub lent-in : {m : TranscriptModel} {ss es ps is gs ge us : List ℕ} → m ≡ modelIn marks ids numbers starts ends k r
+      → ss ≡ part (k + 1) (r .exons) starts → es ≡ part (k + 1) (r .exons) ends
+      → ps ≡ part (r .bounds) (r .segments) marks → is ≡ part (r .bounds) (r .segments) numbers
+      → gs ≡ part (r .bounds) (r .segments) starts → ge ≡ part (r .bounds) (r .segments) ends → us ≡ part (r .segments) (r .bases) starts
+      → lent m ss es ps is gs ge us ≡ transcriptIn marks ids numbers starts ends k r
   unfolding transcriptIn
-  row-made em ea = rw em at ea
+  lent-in em es ee ep ei egs ege eu = rw (em, es, ee, ep, ei, egs, ege, eu)

@@ -2,36 +2,38 @@
 -- Assumes nothing.
 use Prim.Native.Nat.{ℕ}
 use mathlib.Core.Path.{_≡_}
-use mathlib.Core.Bool.{true, _||_}
+use mathlib.Core.Bool.{Bool, true, _||_}
 use mathlib.Core.List.{List}
 use lib.Dec.{leb}
 use borrow.Author.Tests.{eq-eqb, ne-eqb}
 use Rattle.deck.specs.Records.{kindOf, markOf, half, word, nonzero, unusedNotZero, badRecord}
 
 module _ (d : List ℕ) (i : ℕ) where
-  pub unused-0 : kindOf d i ≡ 0 → unusedNotZero d i ≡ (nonzero (markOf d i) || nonzero (word d i 4) || nonzero (word d i 8) || nonzero (word d i 12))
+  pub unused-0 : kindOf d i ≡ 0 → {m : ℕ} {a b c x y z : Bool} → m ≡ markOf d i → a ≡ nonzero (word d i 4) → b ≡ nonzero (word d i 8) → c ≡ nonzero (word d i 12)
+      → x ≡ (nonzero m || a) → y ≡ (x || b) → z ≡ (y || c) → z ≡ unusedNotZero d i
   unfolding unusedNotZero
-  unused-0 e = rw (eq-eqb (kindOf d i) 0 e)
+  unused-0 e em ea eb ec ex ey ez = rw (ez, ey, ex, em, ea, eb, ec, eq-eqb (kindOf d i) 0 e)
 
-  pub unused-1 : kindOf d i ≡ 1 → unusedNotZero d i ≡ (leb 4 (markOf d i) || nonzero (half d i 14))
+  pub unused-1 : kindOf d i ≡ 1 → {m : ℕ} {a x : Bool} → m ≡ markOf d i → a ≡ nonzero (half d i 14) → x ≡ (leb 4 m || a) → x ≡ unusedNotZero d i
   unfolding unusedNotZero
-  unused-1 e = rw e
+  unused-1 e em ea ex = rw (ex, em, ea, e)
 
-  pub unused-2 : kindOf d i ≡ 2 → unusedNotZero d i ≡ (nonzero (markOf d i) || nonzero (half d i 2))
+  pub unused-2 : kindOf d i ≡ 2 → {m : ℕ} {a x : Bool} → m ≡ markOf d i → a ≡ nonzero (half d i 2) → x ≡ (nonzero m || a) → x ≡ unusedNotZero d i
   unfolding unusedNotZero
-  unused-2 e = rw e
+  unused-2 e em ea ex = rw (ex, em, ea, e)
 
-  pub unused-3 : kindOf d i ≡ 3 → unusedNotZero d i ≡ (nonzero (markOf d i) || nonzero (word d i 12))
+  pub unused-3 : kindOf d i ≡ 3 → {m : ℕ} {a x : Bool} → m ≡ markOf d i → a ≡ nonzero (word d i 12) → x ≡ (nonzero m || a) → x ≡ unusedNotZero d i
   unfolding unusedNotZero
-  unused-3 e = rw e
+  unused-3 e em ea ex = rw (ex, em, ea, e)
 
-  pub unused-4 : kindOf d i ≡ 4 → unusedNotZero d i ≡ nonzero (half d i 14)
+  pub unused-4 : kindOf d i ≡ 4 → {a : Bool} → a ≡ nonzero (half d i 14) → a ≡ unusedNotZero d i
   unfolding unusedNotZero
-  unused-4 e = rw e
+  unused-4 e ea = rw (ea, e)
 
-  pub unused-5 : kindOf d i ≡ 5 → unusedNotZero d i ≡ (nonzero (markOf d i) || nonzero (word d i 8) || nonzero (word d i 12))
+  pub unused-5 : kindOf d i ≡ 5 → {m : ℕ} {a b x y : Bool} → m ≡ markOf d i → a ≡ nonzero (word d i 8) → b ≡ nonzero (word d i 12)
+      → x ≡ (nonzero m || a) → y ≡ (x || b) → y ≡ unusedNotZero d i
   unfolding unusedNotZero
-  unused-5 e = rw e
+  unused-5 e em ea eb ex ey = rw (ey, ex, em, ea, eb, e)
 
   pub unused-other : (kindOf d i ≡ 0 → ⊥) → (kindOf d i ≡ 1 → ⊥) → (kindOf d i ≡ 2 → ⊥) → (kindOf d i ≡ 3 → ⊥) → (kindOf d i ≡ 4 → ⊥) → (kindOf d i ≡ 5 → ⊥) → unusedNotZero d i ≡ true
   unfolding unusedNotZero

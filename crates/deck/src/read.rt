@@ -7,6 +7,11 @@ use crate::columns::ids_of;
 use crate::columns::numbers_of;
 use crate::columns::records_of;
 use crate::columns::words_of;
+use crate::part::base_part;
+use crate::part::exon_part;
+use crate::part::segment_exons;
+use crate::part::segment_part;
+use crate::part::segment_phases;
 use crate::rows::Rows;
 use crate::rows::model_in;
 use crate::rows::rows_at;
@@ -35,25 +40,15 @@ fn admit_row(
     requires { ⌜ InOrder k rows ⌝ }
     ensures { λ r. ⌜ r ≡ admissionOf (transcriptIn (now (marks .entry)) (now (ids .entry)) (now (numbers .entry)) (now (starts .entry)) (now (ends .entry)) k rows) ⌝ }
 {
-    let model = model_in(marks, ids, numbers, starts, ends, k, rows);
-    let from = k + 1;
-    let exons = rows.exons;
-    let bounds = rows.bounds;
-    let segments = rows.segments;
-    let bases = rows.bases;
-    let all_marks = &marks[..];
-    let all_numbers = &numbers[..];
-    let all_starts = &starts[..];
-    let all_ends = &ends[..];
     admit(
-        model,
-        &all_starts[from..exons],
-        &all_ends[from..exons],
-        &all_marks[bounds..segments],
-        &all_numbers[bounds..segments],
-        &all_starts[bounds..segments],
-        &all_ends[bounds..segments],
-        &all_starts[segments..bases],
+        model_in(marks, ids, numbers, starts, ends, k, rows),
+        exon_part(starts, k, rows),
+        exon_part(ends, k, rows),
+        segment_phases(marks, k, rows),
+        segment_exons(numbers, k, rows),
+        segment_part(starts, k, rows),
+        segment_part(ends, k, rows),
+        base_part(starts, k, rows),
     )
 }
 

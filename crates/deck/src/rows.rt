@@ -1,4 +1,5 @@
 // Transcripts in the table of a deck: rows one behind the other.
+use crate::part::exon_part;
 use transcript::CdsBounds;
 use transcript::Exon;
 use transcript::Strand;
@@ -133,17 +134,13 @@ pub fn model_in(
 {
     let mark = marks[k];
     let strand = strand_of(mark);
-    let from = k + 1;
-    let exons = rows.exons;
-    let all_starts = &starts[..];
-    let all_ends = &ends[..];
-    let edges = tx_bounds(&all_starts[from..exons], &all_ends[from..exons], strand);
-    let cds = bounds_in(starts, ends, exons, rows.bounds);
+    let edges = tx_bounds(exon_part(starts, k, rows), exon_part(ends, k, rows), strand);
+    let cds = bounds_in(starts, ends, rows.exons, rows.bounds);
     TranscriptModel {
         id: ids[k],
         chromosome: numbers[k],
         strand,
-        exon_count: (exons - from) as u16,
+        exon_count: (rows.exons - (k + 1)) as u16,
         tx_start: edges.genomic_start,
         tx_end: edges.genomic_end,
         cds,
