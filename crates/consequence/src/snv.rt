@@ -1,8 +1,9 @@
 // The single-base call on a transcript as it is handed in.
 use super::Call;
 use super::Called;
-use super::admitted::annotate_admitted;
-use locate::index_of;
+use super::summed::annotate_summed;
+use footprint::has_frameshift_intron;
+use locate::sum_up;
 use transcript::Admission;
 use transcript::TranscriptModel;
 use transcript::admit;
@@ -42,7 +43,13 @@ pub fn annotate_snv(
     let Admission::Admitted = admitted else {
         return Called::Refused(refusal_number(admitted));
     };
-    let index = index_of(
+    let strand = model.strand;
+    let short = has_frameshift_intron(exon_starts, exon_ends, strand);
+    let mut cumulative_exons = [0u32; 513];
+    let mut cumulative_cds = [0u32; 513];
+    sum_up(
+        &mut cumulative_exons,
+        &mut cumulative_cds,
         model,
         exon_starts,
         exon_ends,
@@ -52,11 +59,7 @@ pub fn annotate_snv(
         seg_ends,
         selenocysteine,
     );
-    let scalars = index.scalars;
-    let cumulative_exons = index.cumulative_exons;
-    let cumulative_cds = index.cumulative_cds;
-    let selenocysteine_codons = index.selenocysteine_codons;
-    annotate_admitted(
+    annotate_summed(
         window_chromosome,
         window_first,
         window,
@@ -69,9 +72,8 @@ pub fn annotate_snv(
         seg_starts,
         seg_ends,
         selenocysteine,
-        scalars,
         &cumulative_exons,
         &cumulative_cds,
-        &selenocysteine_codons,
+        short,
     )
 }

@@ -35,7 +35,7 @@ use Rattle.transcript.proofs.Admitted.{ascending-exons, exons-high}
 use Rattle.transcript.proofs.Orient.{inside-by}
 use Rattle.transcript.proofs.Listed.{nowhere}
 use Rattle.locate.proofs.Sums.{sizes-le}
-use Rattle.locate.proofs.Offset.{first-sum, sums-of, sum-last}
+use Rattle.locate.proofs.Offset.{first-sum, sums-of, sum-last, index-exons, index-cds}
 use Rattle.locate.proofs.CodingExons.{firstExon, first-is, first-holds, last-exon}
 use Rattle.locate.proofs.LentTranscript.{known, ad, exons-are, segments-are, bases-are, count, segment-count, coding-is, cds-is, pad-is, pad-2, head-is}
 
@@ -95,6 +95,12 @@ module _ (m : TranscriptModel) (ss es ps is gs ge bs : List ℕ) (h : admission 
 
   pub cds-array : (pad : ℕ) → pad ≡ padOfPhases ps → filled 513 (cumulative pad (map exonSize (exonsOf gs ge))) ≡ locateIndex o .«cumulative_cds»
   cds-array pad e = let p = e ∙ sym (pad-is m ss es ps is gs ge bs h) in λ k. filled 513 (cumulative (p k) (segment-sizes k))
+
+  pub exons-summed : (sums : List ℕ) → sums ≡ locateIndex o .«cumulative_exons» → ExonSums o sums
+  exons-summed sums e = rw e (index-exons o)
+
+  pub cds-summed : (sums : List ℕ) → sums ≡ locateIndex o .«cumulative_cds» → CdsSums o sums
+  cds-summed sums e = rw e (index-cds o (pad-2 m ss es ps is gs ge bs h))
 
   -- the arrays
   module _ (sums : List ℕ) (q : ExonSums o sums) where

@@ -15,6 +15,7 @@ mod variant;
 
 pub use index::index_of;
 pub use index::scalars_of;
+pub use index::sum_up;
 pub use positions::cdna_position;
 pub use prefix_sums::store_sums;
 pub use search::started;

@@ -1,23 +1,34 @@
 -- `consequence::snv::annotate_snv` meets its contract.
 -- Assumes nothing.
-use mathlib.Core.Path.{_≡_, ap, _∙_}
+use mathlib.Core.Path.{_≡_, refl, ap, _∙_, sym}
+use mathlib.Core.List.{List}
+use Prim.Native.Nat.{ℕ}
 use native.Mathlib.Omega.{arith}
 use denote.Ref.{now}
+use Rattle.common.specs.Lists.{any}
+use Rattle.transcript.specs.declared.TranscriptModel.{TranscriptModel}
 use Rattle.transcript.specs.Transcript.{Transcript, lent}
-use Rattle.transcript.specs.Orient.{oriented}
+use Rattle.transcript.specs.Orient.{Interval}
+use Rattle.transcript.specs.Bases.{gaps}
 use Rattle.transcript.specs.Admission.{admission}
 use Rattle.transcript.proofs.Asking.{refused-some, number-is, admitted-is}
-use Rattle.locate.specs.declared.LocateIndex.{LocateIndex}
-use Rattle.locate.proofs.Offset.{index-exons, index-cds}
-use Rattle.locate.proofs.LentTranscript.{pad-2}
+use Rattle.footprint.specs.ShortIntron.{isFrameshiftGap}
+use Rattle.locate.proofs.LentTranscript.{ad, exons-are}
+use Rattle.locate.proofs.LentIndex.{exons-summed, cds-summed}
 use Rattle.consequence.specs.Window.{Window}
 use Rattle.consequence.proofs.Calling.{not-admitted}
 use borrow.Author.Needs.{needs}
 use Rattle.consequence.proofs.snv.annotate_snv.Statement.{statement}
 use Rattle.consequence.proofs.snv.annotate_snv.Tie as tie
 
+-- a law about the transcript's parts, at them
+abbrev on : (b : tie.Start) → {P : TranscriptModel → List ℕ → List ℕ → List ℕ → List ℕ → List ℕ → List ℕ → List ℕ → Type 0}
+    → ((m : TranscriptModel) (ss es ps is gs ge bs : List ℕ) → P m ss es ps is gs ge bs)
+    → P (b .args .model) (now (b .args .exon-starts)) (now (b .args .exon-ends)) (now (b .args .seg-phases)) (now (b .args .seg-exons)) (now (b .args .seg-starts)) (now (b .args .seg-ends)) (now (b .args .selenocysteine))
+on b f = f (b .args .model) (now (b .args .exon-starts)) (now (b .args .exon-ends)) (now (b .args .seg-phases)) (now (b .args .seg-exons)) (now (b .args .seg-starts)) (now (b .args .seg-ends)) (now (b .args .selenocysteine))
+
 abbrev transcript : tie.Start → Transcript
-transcript b = lent (b .args .model) (now (b .args .exon-starts)) (now (b .args .exon-ends)) (now (b .args .seg-phases)) (now (b .args .seg-exons)) (now (b .args .seg-starts)) (now (b .args .seg-ends)) (now (b .args .selenocysteine))
+transcript b = on b lent
 
 abbrev window : tie.Start → Window
 window b = record { chromosome = b .args .window-chromosome; first = b .args .window-first; bytes = now (b .args .window) }
@@ -46,26 +57,28 @@ returns c =
     let e = c .refusal-number .ensures ∙ number-is (transcript b) (a .result) (a .ensures) in
     not-admitted (transcript b) (window b) (b .args .call) (c .refusal-number .result) (omega arith) e
 
-index-of-requires : tie.Need-index-of-requires
-index-of-requires c κs = admitted c
+has-frameshift-intron-requires : tie.Need-has-frameshift-intron-requires
+has-frameshift-intron-requires c κs = let k = on (c .before .before .before .before .before .before .before .before .before .before .before) ad (admitted c) in (k .even, k .edges)
 
-slice-aggregate-annotate-admitted : tie.Need-slice-aggregate-annotate-admitted
-slice-aggregate-annotate-admitted c = search needs
+sum-up-requires : tie.Need-sum-up-requires
+sum-up-requires c κs = ((refl, refl), admitted (c .before .before .before))
 
-slice-aggregate-annotate-admitted-2 : tie.Need-slice-aggregate-annotate-admitted-2
-slice-aggregate-annotate-admitted-2 c = search needs
+slice-aggregate-annotate-summed : tie.Need-slice-aggregate-annotate-summed
+slice-aggregate-annotate-summed c = search needs
 
-annotate-admitted-requires : tie.Need-annotate-admitted-requires
-annotate-admitted-requires c κs =
-    let i = c .before .before .before .before .before .before .before .index-of .ensures in
-    let a = admitted (c .before .before .before .before .before .before .before .before) in
-    let b = c .before .before .before .before .before .before .before .before .before .before .before .before .before .before .before .before .before .before .before in
+slice-aggregate-annotate-summed-2 : tie.Need-slice-aggregate-annotate-summed-2
+slice-aggregate-annotate-summed-2 c = search needs
+
+annotate-summed-requires : tie.Need-annotate-summed-requires
+annotate-summed-requires c κs =
+    let b = c .before .before .before .before .before .before .before .before .before .before .before .before .before .before .before .before .before in
+    let a = admitted (c .before .before .before .before .before .before) in
+    let s = c .before .before .sum-up in
     record {
       admitted = a;
-      scalars-are = ap (λ (x : LocateIndex). x .scalars) i;
-      exons-are = rw (ap (λ (x : LocateIndex). x .«cumulative_exons») i) (index-exons (oriented (transcript b)));
-      segments-are = rw (ap (λ (x : LocateIndex). x .«cumulative_cds») i) (index-cds (oriented (transcript b)) (pad-2 (b .args .model) (now (b .args .exon-starts)) (now (b .args .exon-ends)) (now (b .args .seg-phases)) (now (b .args .seg-exons)) (now (b .args .seg-starts)) (now (b .args .seg-ends)) (now (b .args .selenocysteine)) a));
-      codons-are = ap (λ (x : LocateIndex). x .«selenocysteine_codons») i;
+      exons-are = on b exons-summed a (s .last .0) (s .ensures .0 .0);
+      segments-are = on b cds-summed a (s .last .1 .0) (s .ensures .0 .1);
+      short-is = c .before .before .before .before .before .has-frameshift-intron .ensures ∙ ap (λ (xs : List Interval). any isFrameshiftGap (gaps xs)) (sym (on b exons-are a));
     }
 
 returns-2 : tie.Need-returns-2
@@ -80,8 +93,9 @@ annotate-snv-spec =
     enum-told-2
     refusal-number-requires
     returns
-    index-of-requires
-    slice-aggregate-annotate-admitted
-    slice-aggregate-annotate-admitted-2
-    annotate-admitted-requires
+    has-frameshift-intron-requires
+    sum-up-requires
+    slice-aggregate-annotate-summed
+    slice-aggregate-annotate-summed-2
+    annotate-summed-requires
     returns-2)
