@@ -3,18 +3,16 @@ use super::IndexScalars;
 use super::LocateIndex;
 use super::exonic::first_index;
 use super::positions::utr5_length;
-use super::prefix_sums::store_sums;
+use super::prefix_sums::sum_up;
 use super::selenocysteine::selenocysteine_codons;
 use footprint::has_frameshift_intron;
 use transcript::TranscriptModel;
 use transcript::limits::end_or_zero;
 use transcript::limits::start_or_zero;
-use transcript::order::pad_of;
 use transcript::oriented::start_of;
 ghost use mathlib.Core.Path.{_≡_};
 ghost use mathlib.Core.Bool.{cond};
 ghost use Prim.Native.Nat.{_+_, _-_, _≤_};
-ghost use lib.ListN.{length, replicate};
 ghost use lib.Dec.{ltb};
 ghost use Rattle.transcript.specs.Limits.{maxExons};
 ghost use Rattle.transcript.specs.Transcript.{lent};
@@ -83,29 +81,6 @@ pub fn scalars_of(
         has_frameshift_intron: short,
         selenocysteine_count: selenocysteine.len(),
     }
-}
-
-// The cumulative lengths of the exons and of the CDS of an admitted transcript, stored into arrays of zeros.
-pub fn sum_up(
-    cumulative_exons: &mut [u32; 513],
-    cumulative_cds: &mut [u32; 513],
-    model: TranscriptModel,
-    exon_starts: &[u64],
-    exon_ends: &[u64],
-    seg_phases: &[u8],
-    seg_exons: &[u16],
-    seg_starts: &[u64],
-    seg_ends: &[u64],
-    selenocysteine: &[u64],
-)
-    requires { ⌜ (now «cumulative_exons» ≡ replicate 513 0) × (now «cumulative_cds» ≡ replicate 513 0) ⌝ }
-    requires { ⌜ admission (lent model (now «exon_starts») (now «exon_ends») (now «seg_phases») (now «seg_exons») (now «seg_starts») (now «seg_ends») (now selenocysteine)) ≡ 0 ⌝ }
-    ensures { λ _. ⌜ (now («cumulative_exons» .exit) ≡ locateIndex (oriented (lent model (now («exon_starts» .entry)) (now («exon_ends» .entry)) (now («seg_phases» .entry)) (now («seg_exons» .entry)) (now («seg_starts» .entry)) (now («seg_ends» .entry)) (now (selenocysteine .entry)))) .«cumulative_exons») × (now («cumulative_cds» .exit) ≡ locateIndex (oriented (lent model (now («exon_starts» .entry)) (now («exon_ends» .entry)) (now («seg_phases» .entry)) (now («seg_exons» .entry)) (now («seg_starts» .entry)) (now («seg_ends» .entry)) (now (selenocysteine .entry)))) .«cumulative_cds») ⌝ }
-    ensures { λ _. ⌜ (length (now («cumulative_exons» .exit)) ≡ 513) × (length (now («cumulative_cds» .exit)) ≡ 513) ⌝ }
-{
-    let pad = pad_of(seg_phases) as u32;
-    store_sums(cumulative_exons, 0, exon_starts, exon_ends, 0);
-    store_sums(cumulative_cds, 0, seg_starts, seg_ends, pad);
 }
 
 // The index of an admitted transcript.

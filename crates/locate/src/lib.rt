@@ -3,6 +3,7 @@
 mod alone;
 mod build;
 mod exonic;
+mod found;
 mod index;
 mod intronic;
 mod lengths;
@@ -15,9 +16,9 @@ mod variant;
 
 pub use index::index_of;
 pub use index::scalars_of;
-pub use index::sum_up;
 pub use positions::cdna_position;
 pub use prefix_sums::store_sums;
+pub use prefix_sums::sum_up;
 pub use search::started;
 pub use selenocysteine::selenocysteine_codons;
 use transcript::Admission;
@@ -92,6 +93,12 @@ pub enum ExonOrIntron {
     Exon(usize, u64, u64),
     Intron(usize, u64, u64),
     Outside,
+}
+
+// Where a base falls: exon i, [start, end), or a place that needs no lengths.
+pub(crate) enum FoundBase {
+    Exon(usize, u64, u64),
+    Elsewhere(VariantLocation),
 }
 
 // The two counters that are never read for each other: coding bases from 0 with the pad before them, and exonic bases from 1.

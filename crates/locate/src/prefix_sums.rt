@@ -1,15 +1,18 @@
 // Cumulative lengths of intervals.
+use transcript::TranscriptModel;
+use transcript::order::pad_of;
 ghost use mathlib.Core.Path.{_≡_};
 ghost use mathlib.Core.Bool.{false};
 ghost use mathlib.Core.List.{map};
 ghost use Prim.Native.Nat.{_+_, _≤_, _<_};
-ghost use lib.ListN.{length};
+ghost use lib.ListN.{length, replicate};
 ghost use lib.Seq.{sets};
 ghost use Rattle.common.specs.Lists.{any};
 ghost use Rattle.transcript.specs.Limits.{top};
-ghost use Rattle.transcript.specs.Transcript.{exonsOf};
-ghost use Rattle.transcript.specs.Admission.{badExon};
-ghost use Rattle.locate.specs.Index.{cumulative};
+ghost use Rattle.transcript.specs.Transcript.{exonsOf, lent};
+ghost use Rattle.transcript.specs.Orient.{oriented};
+ghost use Rattle.transcript.specs.Admission.{badExon, admission};
+ghost use Rattle.locate.specs.Index.{cumulative, locateIndex};
 ghost use Rattle.transcript.specs.Bases.{sum};
 ghost use Rattle.transcript.specs.Lent.{exonSize};
 
@@ -30,4 +33,27 @@ pub fn store_sums(sums: &mut [u32], at: usize, starts: &[u64], ends: &[u64], fir
         i += 1;
     }
     sums[at + i] = acc;
+}
+
+// The cumulative lengths of the exons and of the CDS of an admitted transcript, stored into arrays of zeros.
+pub fn sum_up(
+    cumulative_exons: &mut [u32; 513],
+    cumulative_cds: &mut [u32; 513],
+    model: TranscriptModel,
+    exon_starts: &[u64],
+    exon_ends: &[u64],
+    seg_phases: &[u8],
+    seg_exons: &[u16],
+    seg_starts: &[u64],
+    seg_ends: &[u64],
+    selenocysteine: &[u64],
+)
+    requires { ⌜ (now «cumulative_exons» ≡ replicate 513 0) × (now «cumulative_cds» ≡ replicate 513 0) ⌝ }
+    requires { ⌜ admission (lent model (now «exon_starts») (now «exon_ends») (now «seg_phases») (now «seg_exons») (now «seg_starts») (now «seg_ends») (now selenocysteine)) ≡ 0 ⌝ }
+    ensures { λ _. ⌜ (now («cumulative_exons» .exit) ≡ locateIndex (oriented (lent model (now («exon_starts» .entry)) (now («exon_ends» .entry)) (now («seg_phases» .entry)) (now («seg_exons» .entry)) (now («seg_starts» .entry)) (now («seg_ends» .entry)) (now (selenocysteine .entry)))) .«cumulative_exons») × (now («cumulative_cds» .exit) ≡ locateIndex (oriented (lent model (now («exon_starts» .entry)) (now («exon_ends» .entry)) (now («seg_phases» .entry)) (now («seg_exons» .entry)) (now («seg_starts» .entry)) (now («seg_ends» .entry)) (now (selenocysteine .entry)))) .«cumulative_cds») ⌝ }
+    ensures { λ _. ⌜ (length (now («cumulative_exons» .exit)) ≡ 513) × (length (now («cumulative_cds» .exit)) ≡ 513) ⌝ }
+{
+    let pad = pad_of(seg_phases) as u32;
+    store_sums(cumulative_exons, 0, exon_starts, exon_ends, 0);
+    store_sums(cumulative_cds, 0, seg_starts, seg_ends, pad);
 }

@@ -1,4 +1,4 @@
--- `locate::index::sum_up` meets its contract.
+-- `locate::prefix_sums::sum_up` meets its contract.
 -- Assumes nothing.
 use mathlib.Core.Path.{_≡_, _∙_, ap}
 use mathlib.Core.List.{List, map}
@@ -18,8 +18,8 @@ use Rattle.locate.proofs.LentTranscript.{ad}
 use Rattle.locate.proofs.PrefixSums.{sums-count}
 use Rattle.locate.proofs.LentIndex.{sizes-bound, exon-array, cds-array}
 use borrow.Author.Needs.{needs}
-use Rattle.locate.proofs.index.sum_up.Statement.{statement}
-use Rattle.locate.proofs.index.sum_up.Tie as tie
+use Rattle.locate.proofs.prefix_sums.sum_up.Statement.{statement}
+use Rattle.locate.proofs.prefix_sums.sum_up.Tie as tie
 
 -- a law about the transcript's parts, at them
 abbrev on : (b : tie.Start) → {P : TranscriptModel → List ℕ → List ℕ → List ℕ → List ℕ → List ℕ → List ℕ → List ℕ → Type 0}
