@@ -10,7 +10,8 @@ use lib.Dec.{eqb}
 use Rattle.common.specs.Lists.{consIf}
 use Rattle.common.specs.Stored.{Pushed}
 use Rattle.common.proofs.Stored.{pushed-none, pushed-on}
-use Rattle.terms.specs.Terms.{termName, ranksFrom, ranks, mostSevere, withoutFirst}
+use Rattle.names.specs.Names.{termName}
+use Rattle.terms.specs.Terms.{ranksFrom, ranks, mostSevere, withoutFirst}
 use Rattle.terms.proofs.NameTable.{name-short}
 use Rattle.terms.proofs.Ranks.{ranks-rest}
 use Rattle.listing.specs.Line.{commas, behind, termList}

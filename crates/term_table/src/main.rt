@@ -2,8 +2,8 @@
 // the ranks, with the rank, a space and the name. Writes each rank whose line is another here, and how many there are.
 use libc::STDIN_FILENO;
 use libc::STDOUT_FILENO;
-use terms::name_byte;
-use terms::name_length;
+use names::name_byte;
+use names::name_length;
 ghost use Prim.Native.Nat.{_≤_, _<_};
 ghost use lib.ListN.{length};
 

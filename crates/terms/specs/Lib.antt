@@ -1,4 +1,3 @@
 pub mod Severity
-pub mod Names
 pub mod Terms
 pub mod Coding

@@ -8,7 +8,6 @@ use Rattle.common.specs.Lists.{consIf}
 use Rattle.terms.specs.declared.Consequence.{Consequence}
 use Rattle.terms.specs.declared.Consequence.the-variants.{SpliceAcceptorVariant, SpliceDonorVariant, SpliceRegionVariant}
 use Rattle.terms.specs.Severity.{severityRank}
-unfoldable pub use Rattle.terms.specs.Names.{termName}
 
 -- the set of one term
 abbrev pub only : Consequence → ℕ

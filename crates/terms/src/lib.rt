@@ -1,14 +1,10 @@
 // The Sequence Ontology's terms by severity, and sets of terms.
 mod coding;
-mod names;
 mod set;
 mod severity;
 
 pub use coding::coding_term;
 pub use coding::spill_terms;
-pub use names::name_byte;
-pub use names::name_length;
-pub use names::push_name;
 
 // The Ontology's terms, most severe first: the names of the Rust, in the order of their severity ranks 1 to 28.
 pub enum Consequence {

@@ -1,13 +1,13 @@
--- `terms::names::name_length` meets its contract.
+-- `names::name_length` meets its contract.
 -- Assumes nothing.
 use native.Mathlib.Omega.{arith}
 use lib.ListN.{length}
 use borrow.Author.Needs.{needs}
-use Rattle.terms.specs.Names.{termName, termNames}
+use Rattle.names.specs.Names.{termName, termNames}
 use Rattle.common.proofs.Table.{entry-at}
-use Rattle.terms.proofs.NameTable.{no-name, name-short}
-use Rattle.terms.proofs.names.name_length.Statement.{statement}
-use Rattle.terms.proofs.names.name_length.Tie as tie
+use Rattle.names.proofs.NameTable.{no-name, name-short}
+use Rattle.names.proofs.name_length.Statement.{statement}
+use Rattle.names.proofs.name_length.Tie as tie
 
 returns : tie.Need-returns
 returns c = rw (no-name (c .before .args .rank) (c .if1 .taken))

@@ -5,11 +5,11 @@ use mathlib.Core.Path.{_∙_, sym}
 use native.Mathlib.Omega.{arith}
 use lib.ListN.{length, List·getD-eq-default}
 use borrow.Author.Needs.{needs}
-use Rattle.terms.specs.Names.{termName, termNames}
-use Rattle.terms.proofs.NameTable.{Named, named, nameEntry, entry-is}
+use Rattle.names.specs.Names.{termName, termNames}
+use Rattle.names.proofs.NameTable.{Named, named, nameEntry, entry-is}
 use Rattle.common.proofs.Table.{entry-at}
-use Rattle.terms.proofs.names.name_byte.Statement.{statement}
-use Rattle.terms.proofs.names.name_byte.Tie as tie
+use Rattle.names.proofs.name_byte.Statement.{statement}
+use Rattle.names.proofs.name_byte.Tie as tie
 
 read : (c : tie.Else1) → c .before .before .args .i < length (termName (c .before .before .args .rank))
 read c = rw (c .before .name-length .ensures) at (c .if1 .left)

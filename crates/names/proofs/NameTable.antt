@@ -14,7 +14,7 @@ use Rattle.common.specs.Lists.{all}
 use Rattle.common.specs.Text.{byte, bytes}
 use Rattle.common.proofs.TestParts.{and-true, on-test}
 use Rattle.common.proofs.Table.{entries, entry-at}
-use Rattle.terms.specs.Names.{termNames, termName}
+use Rattle.names.specs.Names.{termNames, termName}
 
 -- a number over 28 has no name
 pub no-name : (r : ℕ) → 28 < r → termName r ≡ []

@@ -1,4 +1,4 @@
--- `terms::names::push_name` meets its contract.
+-- `names::push_name` meets its contract.
 -- Assumes nothing.
 use Prim.Native.Nat.{ℕ, _+_, _-_, _*_, _≤_}
 use mathlib.Core.Path.{subst, _≡_, sym, _∙_}
@@ -10,10 +10,10 @@ use borrow.Author.Needs.{needs}
 use Rattle.common.specs.Stored.{Pushed}
 use Rattle.common.proofs.Stored.{pushed-none}
 use Rattle.common.proofs.Table.{entries}
-use Rattle.terms.specs.Names.{termName, termNames}
-use Rattle.terms.proofs.NameTable.{named, name-short, nameEntry, name-part, nameless}
-use Rattle.terms.proofs.names.push_name.Statement.{statement}
-use Rattle.terms.proofs.names.push_name.Tie as tie
+use Rattle.names.specs.Names.{termName, termNames}
+use Rattle.names.proofs.NameTable.{named, name-short, nameEntry, name-part, nameless}
+use Rattle.names.proofs.push_name.Statement.{statement}
+use Rattle.names.proofs.push_name.Tie as tie
 
 -- a name has a rank, and at most 34 bytes
 facts : (r n : ℕ) → n ≡ length (termName r) → (n ≡ 0 → ⊥) → (1 ≤ r) × (r ≤ 28) × (n ≤ 34)

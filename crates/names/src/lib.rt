@@ -1,10 +1,10 @@
-// The terms' names.
+// The names of the Ontology's terms, by severity rank.
 use common::text::push_bytes;
 ghost use Prim.Native.Nat.{_+_, _<_, _^_};
 ghost use mathlib.Core.Path.{_≡_};
 ghost use lib.ListN.{length, getD};
 ghost use Rattle.common.specs.Stored.{Pushed};
-ghost use Rattle.terms.specs.Names.{termName};
+ghost use Rattle.names.specs.Names.{termName};
 
 // The Ontology's names by rank, 34 bytes for each, filled up with spaces.
 const NAMES: [u8; 952] = *b"\
