@@ -1,9 +1,8 @@
--- The numbers of a call's answer: how many there are, the number of a refusal, and a place that is near.
+-- The answer to a call: the number of a refusal, and a place that is near.
 -- Assumes nothing.
-use Prim.Native.Nat.{ℕ, suc, _<_}
-use mathlib.Core.Path.{_≡_, refl, _∙_, ap}
+use Prim.Native.Nat.{ℕ, _<_}
+use mathlib.Core.Path.{_≡_, refl}
 use mathlib.Core.Bool.{Bool, true, false, cond}
-use lib.ListN.{length, length-append}
 use lib.Dec.{eqb}
 use Rattle.transcript.specs.Transcript.{Transcript}
 use Rattle.transcript.specs.Orient.{Oriented, orientBase, oriented}
@@ -18,18 +17,9 @@ use Rattle.consequence.specs.Window.{Window, codingByte}
 use Rattle.consequence.specs.Numbers.{calledNumber}
 use Rattle.consequence.specs.Answer.{placeResult}
 use Rattle.consequence.specs.Call.{callPlace, callCodon, callRefusal, callResult, annotateSnv}
-use Rattle.interface.specs.Words.{placeWords}
-use Rattle.interface.specs.CallWords.{columnWords, calledWords}
-use Rattle.interface.specs.Row.{Near, NearCalled}
+use Rattle.words.specs.Row.{Near, NearCalled}
 use Rattle.interface.proofs.Nearness.{near-place}
-use Rattle.interface.proofs.PlaceWords.{place-length}
 use Rattle.interface.proofs.Leaving.{some-number}
-
-pub called-length : (x : Called) → length (calledWords x) ≡ 20
-called-length (Called.Answered a) =
-    let p = place-length (a .location) in
-    ap suc (length-append (placeWords (a .location)) (columnWords a) ∙ rw p)
-called-length (Called.Refused n) = refl
 
 -- the place of an answer is the one it was made at
 near-result : (t : Oriented) (p alt : ℕ) (codon : ℕ → FetchedCodon) (place : VariantLocation) → Near place → Near (placeResult t p alt codon place .location)

@@ -3,7 +3,6 @@
 use Prim.Native.Nat.{ℕ, _+_, _-_, _≤_, _<_}
 use mathlib.Core.Path.{_≡_, refl, sym, ap}
 use mathlib.Core.Bool.{Bool, true, false, cond}
-use mathlib.Core.List.{[]}
 use native.Mathlib.Omega.{arith}
 use lib.Dec.{leb, ltb, eqb}
 use borrow.Author.Tests.{ltb-true}
@@ -20,7 +19,7 @@ use Rattle.footprint.specs.Ranges.{sourceRanges}
 use Rattle.footprint.specs.Flank.{isInsertion, flankDistance, flankOf, classifyFlank}
 use Rattle.footprint.specs.Numbers.{flankedNumber}
 use Rattle.footprint.specs.Question.{flank, spill}
-use Rattle.interface.specs.Interval.{NearFlank, NearFlanked}
+use Rattle.words.specs.IntervalWords.{NearFlank, NearFlanked}
 use Rattle.interface.proofs.Leaving.{some-number}
 
 near-either : (b : Bool) (x y : Flank) → (b ≡ true → NearFlank x) → NearFlank y → NearFlank (cond b x y)

@@ -10,7 +10,8 @@ use lib.Dec.{eqb}
 use lib.IntN.{ℤ}
 use borrow.Author.Tests.{eqb-true}
 use Rattle.common.proofs.TestParts.{and-true}
-use Rattle.interface.specs.Calls.{callOf, callsOf, callsFit}
+use Rattle.words.specs.Lengths.{callsFit}
+use Rattle.interface.specs.Calls.{callOf, callsOf}
 
 -- the lengths are equal
 pub record Even (cs ps rs ls : List ℕ) : Type 0 where

@@ -1,14 +1,12 @@
 -- What a question returns and leaves, case by case.
 -- Assumes nothing.
-use Prim.Native.Nat.{ℕ, _+_, _<_}
+use Prim.Native.Nat.{ℕ, _<_}
 use mathlib.Core.Path.{_≡_, sym, _∙_, ap}
 use mathlib.Core.Bool.{Bool, true, false, cond}
-use mathlib.Core.List.{List, [], append-nil}
+use mathlib.Core.List.{List}
 use native.Mathlib.Omega.{arith}
-use lib.ListN.{length}
 use lib.Dec.{eqb}
 use lib.IntN.{ℤ}
-use lib.Seq.{sets, sets-eq, drop-length}
 use borrow.Author.Tests.{ne-eqb, eqb-false}
 use Rattle.common.proofs.TestParts.{true-false, on-test}
 use Rattle.interface.specs.Left.{Answered}
@@ -22,12 +20,6 @@ module _ (fits : Bool) (refusal : ℕ) (words before : List ℤ) where
 
   pub answered : fits ≡ true → refusal ≡ 0 → (after : List ℤ) → after ≡ words → Answered fits refusal words before after 0
   answered h e after w = record { number-is = rw (h, e); words-are = rw (h, e) w }
-
--- words stored in a buffer of their length
-pub whole : (before words : List ℤ) → length words ≡ length before → sets before 0 words ≡ words
-whole before words e =
-    let z : 0 + length words ≡ length before = omega arith in
-    sets-eq words before 0 (omega arith) ∙ rw (z, drop-length before) (append-nil words)
 
 -- an answer that is a refusal has a number above 0: `is` tells refusals, and `number` is theirs
 pub some-number : {A : Type 0} (refuse : ℕ → A) (is : A → Bool) (number : A → ℕ) → ((n : ℕ) → is (refuse n) ≡ true) → ((n : ℕ) → number (refuse n) ≡ n)

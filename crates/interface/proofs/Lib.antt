@@ -1,8 +1,7 @@
-pub mod Putting
 pub mod Nearness
 pub mod Blocks
 pub mod Leaving
-pub mod PlaceWords
+pub mod PlaceRefused
 pub mod Positions
 pub mod Answers
 pub mod CallList

@@ -19,7 +19,7 @@ use Rattle.locate.specs.Intronic.{minus, signedDistance, deepIntron, classifyDi
 use Rattle.locate.specs.Find.{Found, inExon, inIntron, outside, findExonOrIntron}
 use Rattle.locate.specs.Place.{exonic, placeFound, locate}
 use Rattle.locate.specs.Query.{locateVariant}
-use Rattle.interface.specs.Row.{Near, NearAt}
+use Rattle.words.specs.Row.{Near, NearAt}
 
 near-either : (b : Bool) (x y : VariantLocation) → (b ≡ true → Near x) → Near y → Near (cond b x y)
 near-either true x y f n = f refl

@@ -1,6 +1,5 @@
 -- Calls on one transcript through one window, alone and as a list.
-use Prim.Native.Nat.{ℕ, _*_}
-use mathlib.Core.Bool.{Bool, _&&_}
+use Prim.Native.Nat.{ℕ}
 use mathlib.Core.List.{List, [], _∷_, map}
 use lib.ListN.{length}
 use lib.Dec.{eqb}
@@ -13,7 +12,8 @@ use Rattle.consequence.specs.declared.Call.{Call}
 use Rattle.consequence.specs.Window.{Window}
 use Rattle.consequence.specs.Numbers.{calledNumber}
 use Rattle.consequence.specs.Call.{annotateSnv}
-use Rattle.interface.specs.CallWords.{calledWords}
+use Rattle.words.specs.CallWords.{calledWords}
+use Rattle.words.specs.Lengths.{callsFit}
 use Rattle.interface.specs.Left.{Answered}
 
 abbrev pub callOf : ℕ → ℕ → ℕ → ℕ → Call
@@ -34,11 +34,6 @@ callsOf (c ∷ cs) [] rs ls = []
 callsOf (c ∷ cs) (p ∷ ps) [] ls = []
 callsOf (c ∷ cs) (p ∷ ps) (r ∷ rs) [] = []
 callsOf (c ∷ cs) (p ∷ ps) (r ∷ rs) (a ∷ ls) = callOf c p r a ∷ callsOf cs ps rs ls
-
--- the four lists have one length, and the buffer 20 elements for each call
-abbrev pub callsFit : List ℕ → List ℕ → List ℕ → List ℕ → List ℤ → Bool
-callsFit cs ps rs ls buffer =
-    eqb (length cs) (length ps) && (eqb (length rs) (length ps) && (eqb (length ls) (length ps) && eqb (length buffer) (20 * length ps)))
 
 -- the answers to calls, 20 numbers each
 abbrev pub callsWords : Transcript → Window → List Call → List ℤ

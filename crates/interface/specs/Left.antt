@@ -10,7 +10,7 @@ use Rattle.transcript.specs.Transcript.{Transcript}
 use Rattle.footprint.specs.Ranges.{sourceRanges}
 use Rattle.locate.specs.Numbers.{locatedNumber}
 use Rattle.locate.specs.Query.{locateVariant}
-use Rattle.interface.specs.Words.{locatedWords}
+use Rattle.words.specs.Words.{locatedWords}
 
 -- 1 where the buffer or a list has the wrong length, else the refusal's number, 0 for none
 abbrev pub returned : Bool → ℕ → ℕ

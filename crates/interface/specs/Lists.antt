@@ -9,7 +9,7 @@ use Rattle.transcript.specs.Transcript.{Transcript}
 use Rattle.transcript.specs.Admission.{admission}
 use Rattle.footprint.specs.Ranges.{sourceRanges}
 use Rattle.locate.specs.Query.{locatePosition}
-use Rattle.interface.specs.Words.{locatedWords}
+use Rattle.words.specs.Words.{locatedWords}
 use Rattle.interface.specs.Left.{Answered}
 
 -- the place of a position as 8 numbers

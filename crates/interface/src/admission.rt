@@ -1,12 +1,12 @@
 // Whether a transcript is admitted.
-use crate::model::model_of;
 use transcript::admit;
 use transcript::question::refusal_number;
+use words::model_of;
 ghost use mathlib.Core.Path.{_≡_};
 ghost use Rattle.transcript.specs.Transcript.{lent};
 ghost use Rattle.transcript.specs.Admission.{admissionOf};
 ghost use Rattle.transcript.specs.Numbers.{admissionNumber};
-ghost use Rattle.interface.specs.Model.{modelOf};
+ghost use Rattle.words.specs.Model.{modelOf};
 
 // The number of the transcript's refusal, 1 to 13, or 0.
 #[no_mangle]

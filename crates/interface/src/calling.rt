@@ -1,10 +1,10 @@
 // The answer to a call and the answers to many, for callers outside.
 use crate::call::answer_call;
 use crate::calls::answer_calls;
-use crate::model::model_of;
 use consequence::Call;
+use words::model_of;
 ghost use Rattle.transcript.specs.Transcript.{lent};
-ghost use Rattle.interface.specs.Model.{modelOf};
+ghost use Rattle.words.specs.Model.{modelOf};
 ghost use Rattle.interface.specs.Calls.{callOf, CallAnswered, CallsAnswered};
 
 // The answer to a call as 20 numbers, or the number of the refusal; 1 where `out` does not have 20 elements.

@@ -1,6 +1,4 @@
 // The answers to many calls on one transcript.
-use crate::call::put_called;
-use crate::lengths::calls_fit;
 use consequence::Call;
 use consequence::annotate_admitted;
 use locate::IndexScalars;
@@ -9,11 +7,14 @@ use transcript::Admission;
 use transcript::TranscriptModel;
 use transcript::admit;
 use transcript::question::refusal_number;
+use words::calls_fit;
+use words::put_called;
 ghost use mathlib.Core.Path.{_≡_};
 ghost use Rattle.transcript.specs.Transcript.{lent};
 ghost use mathlib.Core.Bool.{true};
 ghost use Rattle.consequence.specs.Prepared.{Prepared};
-ghost use Rattle.interface.specs.Calls.{callsOf, callsFit, callsWords, CallsAnswered};
+ghost use Rattle.words.specs.Lengths.{callsFit};
+ghost use Rattle.interface.specs.Calls.{callsOf, callsWords, CallsAnswered};
 
 // The answers one behind the other.
 fn put_calls(

@@ -1,14 +1,14 @@
 // The flank, the short intron and the spill of an interval.
-use crate::flanks::put_interval;
-use crate::model::model_of;
 use footprint::Flanked;
 use footprint::Spilled;
 use footprint::classify_flank;
 use footprint::exonic_splice_spill;
 use footprint::frameshift_intron_endpoint;
 use transcript::TranscriptModel;
+use words::model_of;
+use words::put_interval;
 ghost use Rattle.transcript.specs.Transcript.{lent};
-ghost use Rattle.interface.specs.Model.{modelOf};
+ghost use Rattle.words.specs.Model.{modelOf};
 ghost use Rattle.interface.specs.Interval.{IntervalAnswered};
 
 // The answers about [start, end), or the number of the refusal; 1 where `out` does not have 7 elements.

@@ -1,5 +1,4 @@
 // The places of many bases of one transcript.
-use crate::place::put_located;
 use crate::position::locate_position;
 use locate::IndexScalars;
 use locate::index_of;
@@ -7,6 +6,7 @@ use transcript::Admission;
 use transcript::TranscriptModel;
 use transcript::admit;
 use transcript::question::refusal_number;
+use words::put_located;
 ghost use mathlib.Core.Path.{_≡_};
 ghost use lib.ListN.{length};
 ghost use Rattle.transcript.specs.Transcript.{lent};

@@ -1,9 +1,9 @@
 // The place of a base and the places of many, for callers outside.
-use crate::model::model_of;
 use crate::place::answer_place;
 use crate::places::answer_places;
+use words::model_of;
 ghost use Rattle.transcript.specs.Transcript.{lent};
-ghost use Rattle.interface.specs.Model.{modelOf};
+ghost use Rattle.words.specs.Model.{modelOf};
 ghost use Rattle.interface.specs.Left.{PlaceAnswered};
 ghost use Rattle.interface.specs.Lists.{PlacesAnswered};
 

@@ -14,9 +14,11 @@ use Rattle.consequence.specs.declared.Called.{Called}
 use Rattle.consequence.specs.Window.{Window}
 use Rattle.consequence.specs.Numbers.{calledNumber}
 use Rattle.consequence.specs.Call.{annotateSnv}
-use Rattle.interface.specs.CallWords.{calledWords}
-use Rattle.interface.proofs.Leaving.{misfit, refused, answered, whole}
-use Rattle.interface.proofs.Answers.{called-length, near-called, called-some}
+use Rattle.words.specs.CallWords.{calledWords}
+use Rattle.words.proofs.Putting.{whole}
+use Rattle.words.proofs.WordLengths.{called-length}
+use Rattle.interface.proofs.Leaving.{misfit, refused, answered}
+use Rattle.interface.proofs.Answers.{near-called, called-some}
 use borrow.Author.Needs.{needs}
 use Rattle.interface.proofs.call.answer_call.Statement.{statement}
 use Rattle.interface.proofs.call.answer_call.Tie as tie

@@ -15,7 +15,8 @@ use Rattle.locate.specs.declared.LocateIndex.{LocateIndex}
 use Rattle.locate.proofs.LentTranscript.{pad-2}
 use Rattle.locate.proofs.Offset.{index-exons, index-cds}
 use Rattle.consequence.specs.Window.{Window}
-use Rattle.interface.specs.Calls.{callsOf, callsFit, callsWords}
+use Rattle.words.specs.Lengths.{callsFit}
+use Rattle.interface.specs.Calls.{callsOf, callsWords}
 use Rattle.interface.proofs.Leaving.{misfit, refused, answered}
 use borrow.Author.Needs.{needs}
 use Rattle.interface.proofs.calls.answer_calls.Statement.{statement}

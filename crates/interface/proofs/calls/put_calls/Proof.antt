@@ -14,10 +14,11 @@ use Rattle.consequence.specs.declared.Call.{Call}
 use Rattle.consequence.specs.declared.Called.{Called}
 use Rattle.consequence.specs.Window.{Window}
 use Rattle.consequence.specs.Call.{annotateSnv}
-use Rattle.interface.specs.CallWords.{calledWords}
+use Rattle.words.specs.CallWords.{calledWords}
+use Rattle.words.proofs.WordLengths.{called-length}
 use Rattle.interface.specs.Calls.{callOf, callsOf, callWords}
 use Rattle.interface.proofs.Blocks.{filledTo, filled-none, filled-length, filled-more, filled-all}
-use Rattle.interface.proofs.Answers.{called-length, near-called}
+use Rattle.interface.proofs.Answers.{near-called}
 use Rattle.interface.proofs.CallList.{Even, fit-even, fit-room, calls-length, call-at}
 use Rattle.interface.proofs.calls.put_calls.Statement.{statement}
 use Rattle.interface.proofs.calls.put_calls.Tie as tie

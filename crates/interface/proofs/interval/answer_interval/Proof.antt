@@ -14,7 +14,7 @@ use Rattle.footprint.specs.declared.Spilled.{Spilled}
 use Rattle.footprint.specs.Ranges.{sourceRanges}
 use Rattle.footprint.specs.Numbers.{flankedNumber}
 use Rattle.footprint.specs.Question.{flank, shortIntron, spill}
-use Rattle.interface.specs.Interval.{intervalWords}
+use Rattle.words.specs.IntervalWords.{intervalWords}
 use Rattle.interface.proofs.Leaving.{misfit, refused, answered}
 use Rattle.interface.proofs.Beside.{near-flanked, flanked-some, alike}
 use borrow.Author.Needs.{needs}

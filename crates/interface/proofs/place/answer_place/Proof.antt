@@ -13,10 +13,12 @@ use Rattle.footprint.specs.Ranges.{sourceRanges}
 use Rattle.locate.specs.declared.Located.{Located}
 use Rattle.locate.specs.Numbers.{locatedNumber}
 use Rattle.locate.specs.Query.{locateVariant}
-use Rattle.interface.specs.Words.{locatedWords}
+use Rattle.words.specs.Words.{locatedWords}
+use Rattle.words.proofs.Putting.{whole}
+use Rattle.words.proofs.WordLengths.{located-length}
 use Rattle.interface.proofs.Nearness.{near-located}
-use Rattle.interface.proofs.Leaving.{misfit, refused, answered, whole}
-use Rattle.interface.proofs.PlaceWords.{located-length, refused-some}
+use Rattle.interface.proofs.Leaving.{misfit, refused, answered}
+use Rattle.interface.proofs.PlaceRefused.{refused-some}
 use borrow.Author.Needs.{needs}
 use Rattle.interface.proofs.place.answer_place.Statement.{statement}
 use Rattle.interface.proofs.place.answer_place.Tie as tie

@@ -12,11 +12,11 @@ use Rattle.transcript.specs.Transcript.{Transcript, lent}
 use Rattle.footprint.specs.Ranges.{sourceRanges}
 use Rattle.locate.specs.declared.Located.{Located}
 use Rattle.locate.specs.Query.{locatePosition}
-use Rattle.interface.specs.Words.{locatedWords}
+use Rattle.words.specs.Words.{locatedWords}
+use Rattle.words.proofs.WordLengths.{located-length}
 use Rattle.interface.specs.Lists.{positionWords}
 use Rattle.interface.proofs.Blocks.{filledTo, filled-none, filled-length, filled-more, filled-all}
 use Rattle.interface.proofs.Nearness.{near-located}
-use Rattle.interface.proofs.PlaceWords.{located-length}
 use Rattle.interface.proofs.places.put_places.Statement.{statement}
 use Rattle.interface.proofs.places.put_places.Tie as tie
 

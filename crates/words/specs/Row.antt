@@ -1,0 +1,37 @@
+-- A place as the code hands it on.
+use Prim.Native.Nat.{_≤_}
+use mathlib.Core.List.{List, [], _∷_}
+use lib.IntN.{ℤ, pos}
+use Rattle.footprint.specs.Ranges.{sourceRanges}
+use Rattle.locate.specs.declared.VariantLocation.{VariantLocation}
+use Rattle.locate.specs.declared.VariantLocation.the-variants.{Upstream, Downstream, Distal, FivePrimeUtr, CdsExon, ThreePrimeUtr, SpliceDonor, SpliceAcceptor, SpliceRegion, Intron, FrameshiftIntron, NonCodingExon, NonCodingIntron}
+use Rattle.locate.specs.declared.Located.{Located}
+use Rattle.consequence.specs.declared.Called.{Called}
+use Rattle.words.specs.declared.row.Row.{Row}
+
+abbrev pub rowWords : Row → List ℤ
+rowWords r = pos (r .kind) ∷ pos (r .mark) ∷ pos (r .index) ∷ pos (r .segment) ∷ pos (r .position) ∷ r .distance ∷ pos (r .number) ∷ []
+
+-- a place beside the transcript is no further than the flank
+abbrev pub Near : VariantLocation → Type 0
+Near (Upstream d) = d ≤ sourceRanges .flank
+Near (Downstream d) = d ≤ sourceRanges .flank
+Near Distal = Unit
+Near (FivePrimeUtr i d m) = Unit
+Near (CdsExon i g o n c m) = Unit
+Near (ThreePrimeUtr i d m) = Unit
+Near (SpliceDonor i d) = Unit
+Near (SpliceAcceptor i d) = Unit
+Near (SpliceRegion i s d) = Unit
+Near (Intron i d) = Unit
+Near (FrameshiftIntron i d) = Unit
+Near (NonCodingExon i m) = Unit
+Near (NonCodingIntron i d) = Unit
+
+abbrev pub NearAt : Located → Type 0
+NearAt (Located.At place) = Near place
+NearAt (Located.Refused n) = Unit
+
+abbrev pub NearCalled : Called → Type 0
+NearCalled (Called.Answered a) = Near (a .location)
+NearCalled (Called.Refused n) = Unit

@@ -1,0 +1,77 @@
+// The answers about an interval as numbers.
+use crate::row::flag_of;
+use crate::words::put_counts;
+use crate::words::put_three;
+use footprint::Endpoint;
+use footprint::Flank;
+use footprint::SpliceSpill;
+ghost use mathlib.Core.Path.{_≡_};
+ghost use lib.ListN.{length};
+ghost use Rattle.footprint.specs.declared.Flanked.{Flanked};
+ghost use Rattle.footprint.specs.declared.Spilled.{Spilled};
+ghost use Rattle.words.specs.IntervalWords.{flankKind, flankLength, endpointFlag, endpointIndex, intervalWords, NearFlank};
+
+fn flank_kind(flank: Flank) -> u32
+    ensures { λ r. ⌜ r ≡ flankKind flank ⌝ }
+{
+    match flank {
+        Flank::Overlaps => 0,
+        Flank::Upstream(d) => 1,
+        Flank::Downstream(d) => 2,
+        Flank::Far => 3,
+    }
+}
+
+fn flank_length(flank: Flank) -> u32
+    requires { ⌜ NearFlank flank ⌝ }
+    ensures { λ r. ⌜ r ≡ flankLength flank ⌝ }
+{
+    match flank {
+        Flank::Overlaps => 0,
+        Flank::Upstream(d) => d as u32,
+        Flank::Downstream(d) => d as u32,
+        Flank::Far => 0,
+    }
+}
+
+fn endpoint_flag(e: Endpoint) -> u32
+    ensures { λ r. ⌜ r ≡ endpointFlag e ⌝ }
+{
+    match e {
+        Endpoint::Intron(i) => 1,
+        Endpoint::Nowhere => 0,
+        Endpoint::Refused(n) => 0,
+    }
+}
+
+fn endpoint_index(e: Endpoint) -> u32
+    ensures { λ r. ⌜ r ≡ endpointIndex e ⌝ }
+{
+    match e {
+        Endpoint::Intron(i) => i as u32,
+        Endpoint::Nowhere => 0,
+        Endpoint::Refused(n) => 0,
+    }
+}
+
+// The answers as 7 numbers.
+pub fn put_interval(out: &mut [i64], flank: Flank, e: Endpoint, spill: SpliceSpill)
+    requires { ⌜ (length (now out) ≡ 7) × NearFlank flank ⌝ }
+    ensures { λ _. ⌜ now (out .exit) ≡ intervalWords (Flanked.Beside flank) e (Spilled.Spill spill) ⌝ }
+{
+    put_counts(
+        out,
+        0,
+        0,
+        flank_kind(flank),
+        flank_length(flank),
+        endpoint_flag(e),
+    );
+    put_three(
+        out,
+        4,
+        endpoint_index(e),
+        flag_of(spill.donor),
+        flag_of(spill.acceptor),
+    );
+}

@@ -1,0 +1,16 @@
+// Transcripts from numbers, answers as numbers. Scalars become a transcript's model, and an answer is put into a lent buffer as
+// signed numbers.
+mod called;
+mod columns;
+mod flanks;
+mod lengths;
+mod located;
+mod model;
+mod row;
+mod words;
+
+pub use called::put_called;
+pub use flanks::put_interval;
+pub use lengths::calls_fit;
+pub use located::put_located;
+pub use model::model_of;
