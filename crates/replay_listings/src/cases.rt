@@ -1,8 +1,8 @@
 // One case of the list.
-use crate::lines::compare_listing;
 use crate::stored::read_part;
 use crate::stored::room;
 use crate::stored::skip;
+use crate::whole::compare_listing;
 use common::little::u32_at;
 use libc::STDOUT_FILENO;
 ghost use Prim.Native.Nat.{_≤_, _<_};

@@ -3,8 +3,8 @@
 // listings were compared, how many of their lines are the same, and how many listings differ.
 mod cases;
 mod compare;
-mod lines;
 mod stored;
+mod whole;
 
 use cases::Outcome;
 use cases::cut_off;

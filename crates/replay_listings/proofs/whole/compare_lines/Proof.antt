@@ -1,4 +1,4 @@
--- `replay_listings::lines::compare_lines` meets its contract.
+-- `replay_listings::whole::compare_lines` meets its contract.
 -- Assumes nothing.
 use Prim.Native.Nat.{_+_, _*_, _≤_}
 use mathlib.Core.Path.{subst, _≡_, sym}
@@ -7,8 +7,8 @@ use lib.ListN.{length}
 use lib.Seq.{length-take-le}
 use borrow.Author.Needs.{needs}
 use Rattle.listing.specs.Steps.{left, Advances}
-use Rattle.replay_listings.proofs.lines.compare_lines.Statement.{statement}
-use Rattle.replay_listings.proofs.lines.compare_lines.Tie as tie
+use Rattle.replay_listings.proofs.whole.compare_lines.Statement.{statement}
+use Rattle.replay_listings.proofs.whole.compare_lines.Tie as tie
 
 abbrev Inv-loop : tie.InvT-loop
 Inv-loop opened window calls stored kinds marks ids numbers starts ends from bases line₀ cursor₀ c₀ line cursor c =
