@@ -2,6 +2,7 @@
 use crate::call::call_indexed;
 use crate::call::rows_in;
 use consequence::Call;
+use lines::write_called;
 use listing::Cursor;
 use listing::Listed;
 use listing::question::Asked;
@@ -11,7 +12,6 @@ use listing::step::is_transcript;
 use listing::step::line_listed;
 use listing::step::malformed_line;
 use listing::step::next_called;
-use listing::write_called;
 ghost use mathlib.Core.Path.{_≡_};
 ghost use Rattle.indexed.specs.TableIndex.{TableIndexed};
 ghost use Rattle.listing.specs.Steps.{nextCalled, nextLine, listedAs, listedTo, Advances};

@@ -4,8 +4,8 @@ use Prim.Native.Nat.{ℕ}
 use mathlib.Core.Path.{_≡_, _∙_}
 use mathlib.Core.List.{List}
 use Rattle.consequence.specs.declared.Called.{Called}
-use Rattle.listing.specs.declared.Written.{Written}
-use Rattle.listing.specs.Line.{calledLine, writeAnswer, writtenTo}
+use Rattle.lines.specs.declared.Written.{Written}
+use Rattle.lines.specs.Line.{calledLine, writeAnswer, writtenTo}
 use Rattle.interface.specs.Lines.{lengthOr0}
 
 pub line-made : (out after : List ℕ) (number id r : ℕ) (w : Written) {v u : Called} → r ≡ lengthOr0 w

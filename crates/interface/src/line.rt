@@ -1,14 +1,14 @@
 // The printed line of a call on a transcript.
 use consequence::Call;
 use consequence::annotate_snv;
-use listing::Written;
-use listing::write_called;
+use lines::Written;
+use lines::write_called;
 use words::model_of;
 ghost use mathlib.Core.Path.{_≡_};
 ghost use Rattle.transcript.specs.Transcript.{lent};
 ghost use Rattle.footprint.specs.Ranges.{sourceRanges};
 ghost use Rattle.consequence.specs.Call.{annotateSnv};
-ghost use Rattle.listing.specs.Line.{calledLine, writeAnswer, writtenTo};
+ghost use Rattle.lines.specs.Line.{calledLine, writeAnswer, writtenTo};
 ghost use Rattle.words.specs.Model.{modelOf};
 ghost use Rattle.interface.specs.Calls.{callOf};
 ghost use Rattle.interface.specs.Lines.{lengthOr0};

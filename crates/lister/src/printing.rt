@@ -2,12 +2,12 @@
 use indexed::index_table;
 use indexed::next_line_indexed;
 use libc::STDOUT_FILENO;
+use lines::Written;
+use lines::line::write_refusal;
 use listing::Cursor;
 use listing::Listed;
 use listing::Opened;
 use listing::Opening;
-use listing::Written;
-use listing::line::write_refusal;
 use listing::open_listing;
 ghost use Prim.Native.Nat.{_≤_, _<_};
 ghost use mathlib.Core.Path.{_≡_};

@@ -13,14 +13,14 @@ use Rattle.consequence.specs.Window.{Window}
 use Rattle.deck.specs.declared.DeckTable.{DeckTable}
 use Rattle.deck.specs.Table.{isKind, rowsAt}
 use Rattle.deck.proofs.RowOrder.{rows-past}
+use Rattle.lines.specs.declared.Written.{Written}
+use Rattle.lines.specs.Line.{refusalLine}
 use Rattle.listing.specs.declared.ParsedCall.{ParsedCall}
 use Rattle.listing.specs.declared.ParsedCall.the-variants.{Read, Malformed}
-use Rattle.listing.specs.declared.Written.{Written}
 use Rattle.listing.specs.declared.Cursor.{Cursor}
 use Rattle.listing.specs.declared.Listed.{Listed}
 use Rattle.listing.specs.declared.question.Asked.{Asked}
 use Rattle.listing.specs.Calls.{lineLength, parseCall}
-use Rattle.listing.specs.Line.{refusalLine}
 use Rattle.listing.specs.Steps.{Next, line, ended, behindLine, behindTranscript, rowLine, nextCalled, lineAt, askedParsed, askedAt, nextAsked, nextLine, listed, listedAs, listedTo, left, Advances}
 use Rattle.listing.proofs.Lines.{line-inside}
 

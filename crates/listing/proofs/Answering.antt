@@ -12,18 +12,16 @@ use Rattle.transcript.specs.declared.TranscriptModel.{TranscriptModel}
 use Rattle.transcript.specs.Transcript.{lent}
 use Rattle.consequence.specs.declared.Call.{Call}
 use Rattle.consequence.specs.declared.Called.{Called}
-use Rattle.consequence.specs.declared.Called.the-variants.{Answered, Refused}
-use Rattle.consequence.specs.declared.ConsequenceResult.{ConsequenceResult}
 use Rattle.consequence.specs.Window.{Window}
 use Rattle.consequence.specs.Call.{annotateSnv}
 use Rattle.deck.specs.declared.DeckTable.{DeckTable}
 use Rattle.deck.specs.declared.rows.Rows.{Rows}
 use Rattle.deck.specs.Table.{isKind, rowsAt, part, modelIn, transcriptIn}
+use Rattle.lines.specs.declared.Written.{Written}
+use Rattle.lines.specs.Line.{calledLine, writeAnswer, writtenTo}
 use Rattle.listing.specs.declared.Cursor.{Cursor}
-use Rattle.listing.specs.declared.Written.{Written}
 use Rattle.listing.specs.declared.Listed.{Listed}
 use Rattle.listing.specs.declared.Listed.the-variants.{End}
-use Rattle.listing.specs.Line.{answerLine, refusalLine, calledLine, writeAnswer, writtenTo}
 use Rattle.listing.specs.Steps.{Next, line, ended, behindTranscript, rowLine, nextCalled, listed, listedAs, listedTo}
 
 module _ (marks ids numbers starts ends : List ℕ) (k : ℕ) (r : Rows) (w : Window) (q : Call) where
@@ -49,16 +47,6 @@ module _ (kinds : List ℕ) (to : ℕ) (c behind : Cursor) {s : Bool} (e : s ≡
 
   pub next-call : s ≡ false → to ≡ rowsAt kinds (c .row) .bases → behind ≡ behindTranscript kinds c behind
   next-call h b = rw (sym b, sym e, h)
-
--- what was put, by the answer
-module _ (out after : List ℕ) (number id : ℕ) {v : Called} {r : Written} where
-  pub answered-put : {x : ConsequenceResult} → v ≡ Answered x → (r ≡ writeAnswer out (answerLine number id x)) × (after ≡ writtenTo out (answerLine number id x))
-      → (r ≡ writeAnswer out (calledLine number id v)) × (after ≡ writtenTo out (calledLine number id v))
-  answered-put e h = rw e h
-
-  pub refused-put : {n : ℕ} → v ≡ Refused n → (r ≡ writeAnswer out (refusalLine number id n)) × (after ≡ writtenTo out (refusalLine number id n))
-      → (r ≡ writeAnswer out (calledLine number id v)) × (after ≡ writtenTo out (calledLine number id v))
-  refused-put e h = rw e h
 
 pub listed-by : {v w : Written} (next : Cursor) → v ≡ w → listed w next ≡ listed v next
 listed-by next e = rw e

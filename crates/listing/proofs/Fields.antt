@@ -9,8 +9,9 @@ use lib.ListN.{length, getD, take, drop, length-take, length-drop}
 use lib.Seq.{drop-drop, getD-take, getD-drop}
 use lib.Dec.{eqb}
 use borrow.Author.Tests.{eq-eqb, ne-eqb}
+use Rattle.lines.specs.Line.{space}
 use Rattle.listing.specs.declared.ParsedCall.the-variants.{Read, Malformed}
-use Rattle.listing.specs.Calls.{space, onto, fieldsOf, fieldLength, isNumber, isCall, callOf, parseCall, value}
+use Rattle.listing.specs.Calls.{onto, fieldsOf, fieldLength, isNumber, isCall, callOf, parseCall, value}
 
 field-le : (l : List ℕ) → fieldLength l ≤ length l
 field-le [] = omega arith

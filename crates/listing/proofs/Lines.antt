@@ -1,6 +1,6 @@
 -- Lines and fields found by a position.
 -- Assumes nothing.
-use Prim.Native.Nat.{ℕ, suc, _+_, _-_, _≤_, _<_}
+use Prim.Native.Nat.{ℕ, suc, _+_, _≤_, _<_}
 use mathlib.Core.Path.{_≡_, refl}
 use mathlib.Core.Bool.{Bool, true, false, cond}
 use mathlib.Core.List.{List, [], _∷_}
@@ -10,7 +10,8 @@ use lib.ListN.{length, getD, take, drop, length-drop}
 use lib.Seq.{drop-cons, drop-length}
 use lib.Dec.{eqb}
 use borrow.Author.Tests.{eq-eqb, ne-eqb, eqb-true}
-use Rattle.listing.specs.Calls.{newline, space, linesOf, lineLength, fieldLength}
+use Rattle.lines.specs.Line.{newline, space}
+use Rattle.listing.specs.Calls.{linesOf, lineLength, fieldLength}
 
 -- the first line and the lines behind it
 lines-here : (t : Bool) (b : ℕ) (bs : List ℕ) → eqb b newline ≡ t → linesOf bs ≡ take (lineLength bs) bs ∷ linesOf (drop (lineLength bs) bs)

@@ -9,11 +9,11 @@ use Rattle.consequence.specs.Window.{Window}
 use Rattle.consequence.specs.Call.{annotateSnv}
 use Rattle.deck.specs.declared.DeckAnswer.{DeckAnswer}
 use Rattle.deck.specs.Deck.{readDeck, deckTranscripts}
+use Rattle.lines.specs.Line.{refusalLine, calledLine}
 use Rattle.listing.specs.declared.ParsedCall.{ParsedCall}
 use Rattle.listing.specs.declared.ParsedCall.the-variants.{Read, Malformed}
 use Rattle.listing.specs.Calls.{linesOf, parseCall}
 use Rattle.listing.specs.WindowFile.{badWindowFile, badCallFile, windowOf}
-use Rattle.listing.specs.Line.{refusalLine, calledLine}
 
 -- the lines of one call: one for each transcript in deck order, or 26 with id 0
 abbrev pub callLines : List Transcript → Window → ℕ → ParsedCall → List (List ℕ)

@@ -11,14 +11,14 @@ use Rattle.consequence.specs.Call.{annotateSnv}
 use Rattle.deck.specs.declared.DeckTable.{DeckTable}
 use Rattle.deck.specs.Records.{transcriptKind}
 use Rattle.deck.specs.Table.{isKind, rowsAt, transcriptAt}
+use Rattle.lines.specs.declared.Written.{Written}
+use Rattle.lines.specs.Line.{refusalLine, calledLine, writeAnswer, writtenTo}
 use Rattle.listing.specs.declared.ParsedCall.{ParsedCall}
 use Rattle.listing.specs.declared.ParsedCall.the-variants.{Read, Malformed}
-use Rattle.listing.specs.declared.Written.{Written}
 use Rattle.listing.specs.declared.Cursor.{Cursor}
 use Rattle.listing.specs.declared.Listed.{Listed}
 use Rattle.listing.specs.declared.question.Asked.{Asked}
 use Rattle.listing.specs.Calls.{lineLength, parseCall}
-use Rattle.listing.specs.Line.{refusalLine, calledLine, writeAnswer, writtenTo}
 
 -- a line with the cursor behind it, or the listing's end
 pub data Next : Type 0 where

@@ -3,10 +3,10 @@ use Prim.Native.Nat.{ℕ, _+_}
 use mathlib.Core.Path.{_≡_}
 use mathlib.Core.List.{List, [], _∷_}
 use lib.ListN.{length}
+use Rattle.lines.specs.Line.{refusalLine}
 use Rattle.listing.specs.declared.Opening.{Opening}
 use Rattle.listing.specs.declared.Opening.the-variants.{Listing, Refused}
 use Rattle.listing.specs.declared.Opened.{Opened}
-use Rattle.listing.specs.Line.{refusalLine}
 use Rattle.listing.specs.Listing.{listing}
 use Rattle.listing.specs.Steps.{steps, start}
 use Rattle.listing.specs.Opening.{opened, openedWindow}

@@ -1,7 +1,4 @@
-// A call on one transcript of a deck's table, and its line.
-use crate::Written;
-use crate::answer::write_answer;
-use crate::line::write_refusal;
+// A call on one transcript of a deck's table.
 use consequence::Call;
 use consequence::Called;
 use consequence::annotate_snv;
@@ -11,7 +8,6 @@ ghost use mathlib.Core.Path.{_≡_};
 ghost use Rattle.footprint.specs.Ranges.{sourceRanges};
 ghost use Rattle.consequence.specs.Call.{annotateSnv};
 ghost use Rattle.deck.specs.Table.{InOrder, transcriptIn};
-ghost use Rattle.listing.specs.Line.{calledLine, writeAnswer, writtenTo};
 
 // The answer to a call on the transcript at row k.
 pub(crate) fn call_at(
@@ -53,14 +49,4 @@ pub(crate) fn call_at(
         &all_ends[bounds..segments],
         &all_starts[segments..bases],
     )
-}
-
-// The line of a call's answer, or 28 where it does not fit.
-pub fn write_called(out: &mut [u8], number: u64, id: u32, called: Called) -> Written
-    ensures { λ r. ⌜ (r ≡ writeAnswer (now (out .entry)) (calledLine number id called)) × (now (out .exit) ≡ writtenTo (now (out .entry)) (calledLine number id called)) ⌝ }
-{
-    match called {
-        Called::Answered(x) => write_answer(out, number, id as u64, x),
-        Called::Refused(refusal) => write_refusal(out, number, id as u64, refusal as u64),
-    }
 }

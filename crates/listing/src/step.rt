@@ -1,17 +1,17 @@
 // The next line of a listing.
 use crate::Cursor;
 use crate::Listed;
-use crate::Written;
 use crate::called::call_at;
-use crate::called::write_called;
-use crate::line::write_refusal;
 use crate::question::Asked;
 use crate::question::asked_at;
 use consequence::Call;
 use deck::rows::rows_at;
+use lines::Written;
+use lines::line::write_refusal;
+use lines::write_called;
 ghost use mathlib.Core.Path.{_≡_};
 ghost use Rattle.deck.specs.Table.{isKind, rowsAt};
-ghost use Rattle.listing.specs.Line.{refusalLine};
+ghost use Rattle.lines.specs.Line.{refusalLine};
 ghost use Rattle.listing.specs.Steps.{line, behindTranscript, nextCalled, nextLine, listed, listedAs, listedTo, Advances};
 
 // Whether a transcript stands at a row.

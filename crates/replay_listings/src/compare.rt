@@ -1,7 +1,7 @@
 // Comparing a line with the stored bytes.
 use crate::stored::is_next;
-use listing::Written;
-use listing::line::write_refusal;
+use lines::Written;
+use lines::line::write_refusal;
 ghost use Prim.Native.Nat.{_+_, _≤_, _<_};
 ghost use mathlib.Core.Path.{_≡_};
 

@@ -2,7 +2,7 @@
 -- Assumes nothing.
 use mathlib.Core.Path.{refl}
 use denote.Ref.{now}
-use Rattle.listing.specs.Line.{refusalLine}
+use Rattle.lines.specs.Line.{refusalLine}
 use Rattle.listing.proofs.Answering.{line-put}
 use borrow.Author.Needs.{needs}
 use Rattle.listing.proofs.step.malformed_line.Statement.{statement}

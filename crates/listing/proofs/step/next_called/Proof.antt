@@ -6,7 +6,7 @@ use borrow.Author.Tests.{not-true, not-false}
 use denote.Ref.{now}
 use Rattle.consequence.specs.Window.{Window}
 use Rattle.deck.specs.declared.DeckTable.{DeckTable}
-use Rattle.listing.specs.Line.{calledLine}
+use Rattle.lines.specs.Line.{calledLine}
 use Rattle.listing.proofs.Answering.{called-none, called-line, line-put, nothing-put}
 use Rattle.listing.proofs.Advancing.{row-inside}
 use borrow.Author.Needs.{needs}
