@@ -3,7 +3,7 @@ pub mod answer;
 mod called;
 mod columns;
 pub mod line;
-mod names;
+mod places;
 
 pub use called::write_called;
 

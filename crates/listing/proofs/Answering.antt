@@ -1,6 +1,6 @@
 -- One call on the transcript at a row, and the cursor behind it.
 -- Assumes nothing.
-use Prim.Native.Nat.{ℕ, _+_, _≤_, _<_}
+use Prim.Native.Nat.{ℕ, _≤_, _<_}
 use mathlib.Core.Path.{_≡_, refl, sym, _∙_, ap}
 use mathlib.Core.Bool.{Bool, true, false}
 use mathlib.Core.List.{List}
@@ -8,30 +8,19 @@ use lib.ListN.{getD}
 use lib.Dec.{eqb}
 use borrow.Author.Tests.{lt-ltb, le-ltb}
 use Rattle.footprint.specs.Ranges.{sourceRanges}
-use Rattle.transcript.specs.declared.TranscriptModel.{TranscriptModel}
-use Rattle.transcript.specs.Transcript.{lent}
 use Rattle.consequence.specs.declared.Call.{Call}
 use Rattle.consequence.specs.declared.Called.{Called}
 use Rattle.consequence.specs.Window.{Window}
 use Rattle.consequence.specs.Call.{annotateSnv}
 use Rattle.deck.specs.declared.DeckTable.{DeckTable}
 use Rattle.deck.specs.declared.rows.Rows.{Rows}
-use Rattle.deck.specs.Table.{isKind, rowsAt, part, modelIn, transcriptIn}
+use Rattle.deck.specs.Table.{isKind, rowsAt, modelIn, transcriptIn}
 use Rattle.lines.specs.declared.Written.{Written}
 use Rattle.lines.specs.Line.{calledLine, writeAnswer, writtenTo}
 use Rattle.listing.specs.declared.Cursor.{Cursor}
 use Rattle.listing.specs.declared.Listed.{Listed}
 use Rattle.listing.specs.declared.Listed.the-variants.{End}
 use Rattle.listing.specs.Steps.{Next, line, ended, behindTranscript, rowLine, nextCalled, listed, listedAs, listedTo}
-
-module _ (marks ids numbers starts ends : List ℕ) (k : ℕ) (r : Rows) (w : Window) (q : Call) where
-  pub call-made : {m : TranscriptModel} {a : Called} → m ≡ modelIn marks ids numbers starts ends k r
-      → a ≡ annotateSnv sourceRanges (lent m (part (k + 1) (r .exons) starts) (part (k + 1) (r .exons) ends)
-      (part (r .bounds) (r .segments) marks) (part (r .bounds) (r .segments) numbers) (part (r .bounds) (r .segments) starts)
-      (part (r .bounds) (r .segments) ends) (part (r .segments) (r .bases) starts)) w q
-      → a ≡ annotateSnv sourceRanges (transcriptIn marks ids numbers starts ends k r) w q
-  unfolding transcriptIn
-  call-made em ea = rw em at ea
 
 -- whether a transcript stands at a row
 pub in-table : (kinds : List ℕ) (k : ℕ) → k < 4096 → eqb (getD kinds k 0) 1 ≡ isKind kinds 1 k

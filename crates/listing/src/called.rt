@@ -2,6 +2,11 @@
 use consequence::Call;
 use consequence::Called;
 use consequence::annotate_snv;
+use deck::part::base_part;
+use deck::part::exon_part;
+use deck::part::segment_exons;
+use deck::part::segment_part;
+use deck::part::segment_phases;
 use deck::rows::Rows;
 use deck::rows::model_in;
 ghost use mathlib.Core.Path.{_≡_};
@@ -26,27 +31,18 @@ pub(crate) fn call_at(
     requires { ⌜ InOrder k rows ⌝ }
     ensures { λ r. ⌜ r ≡ annotateSnv sourceRanges (transcriptIn (now (marks .entry)) (now (ids .entry)) (now (numbers .entry)) (now (starts .entry)) (now (ends .entry)) k rows) (record { chromosome = «window_chromosome»; first = «window_first»; bytes = now (window .entry) }) call ⌝ }
 {
-    let from = k + 1;
-    let exons = rows.exons;
-    let bounds = rows.bounds;
-    let segments = rows.segments;
-    let bases = rows.bases;
-    let all_marks = &marks[..];
-    let all_numbers = &numbers[..];
-    let all_starts = &starts[..];
-    let all_ends = &ends[..];
     annotate_snv(
         window_chromosome,
         window_first,
         window,
         call,
         model_in(marks, ids, numbers, starts, ends, k, rows),
-        &all_starts[from..exons],
-        &all_ends[from..exons],
-        &all_marks[bounds..segments],
-        &all_numbers[bounds..segments],
-        &all_starts[bounds..segments],
-        &all_ends[bounds..segments],
-        &all_starts[segments..bases],
+        exon_part(starts, k, rows),
+        exon_part(ends, k, rows),
+        segment_phases(marks, k, rows),
+        segment_exons(numbers, k, rows),
+        segment_part(starts, k, rows),
+        segment_part(ends, k, rows),
+        base_part(starts, k, rows),
     )
 }

@@ -46,7 +46,8 @@ u16-at-requires c κs =
 u64-at-requires : tie.Need-u64-at-requires
 u64-at-requires c κs =
     let a = c .before .before .before .before .before .before .before .before .before .before .args in
-    right-files (now (a .window)) (now (a .calls)) (sym (c .before .before .bad-files .ensures) ∙ c .before .if1 .left) .0
+    let r = right-files (now (a .window)) (now (a .calls)) (sym (c .before .before .bad-files .ensures) ∙ c .before .if1 .left) .0 in
+    omega arith
 
 returns-3 : tie.Need-returns-3
 returns-3 c =

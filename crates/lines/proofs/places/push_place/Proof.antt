@@ -1,4 +1,4 @@
--- `lines::names::push_place` meets its contract.
+-- `lines::places::push_place` meets its contract.
 -- Assumes nothing.
 use Prim.Native.Nat.{_+_, _-_}
 use native.Mathlib.Omega.{arith}
@@ -8,8 +8,8 @@ use Rattle.common.proofs.Stored.{pushed-none}
 use Rattle.lines.proofs.Nameless.{no-place}
 use Rattle.lines.proofs.NameTable.{places, placeEnds, place-row}
 use borrow.Author.Needs.{needs}
-use Rattle.lines.proofs.names.push_place.Statement.{statement}
-use Rattle.lines.proofs.names.push_place.Tie as tie
+use Rattle.lines.proofs.places.push_place.Statement.{statement}
+use Rattle.lines.proofs.places.push_place.Tie as tie
 
 returns : tie.Need-returns
 returns c = let a = c .before .before .args in (rw (no-place (a .kind) (omega arith)) (pushed-none (now (a .out)) (a .at)), omega arith)
