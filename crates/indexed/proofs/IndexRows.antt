@@ -11,7 +11,7 @@ use borrow.Author.Tests.{lt-ltb, ltb-false, eqb-false, not-true}
 use Rattle.common.proofs.TestParts.{on-test}
 use Rattle.transcript.specs.declared.CdsBounds.the-variants.{Neither, Both}
 use Rattle.transcript.specs.declared.TranscriptModel.{TranscriptModel}
-use Rattle.transcript.specs.Transcript.{lent, hasBounds}
+use Rattle.transcript.specs.Transcript.{Transcript, lent, hasBounds}
 use Rattle.transcript.specs.Orient.{oriented}
 use Rattle.transcript.specs.Admission.{admission}
 use Rattle.locate.proofs.LentTranscript.{known, count, segment-count, coding-is}
@@ -20,7 +20,7 @@ use Rattle.deck.specs.declared.rows.Rows.{Rows}
 use Rattle.deck.specs.Table.{part, InOrder, modelIn, transcriptIn}
 use Rattle.indexed.specs.TableIndex.{cdsRow}
 
-pub part-le : (a b : ℕ) (l : List ℕ) → length (part a b l) ≤ b - a
+part-le : (a b : ℕ) (l : List ℕ) → length (part a b l) ≤ b - a
 part-le a b l = let t = length-take (b - a) (drop a l) in omega arith
 
 bounds-are : (s e : ℕ) (b : Bool) → hasBounds (cond b Neither (Both s e)) ≡ not b
@@ -30,6 +30,10 @@ bounds-are s e false = refl
 either : {A : Type 0} (x y : A) (a b : Bool) → b ≡ not a → cond b x y ≡ cond a y x
 either x y true b e = rw e
 either x y false b e = rw e
+
+-- room for the sums of the exons, in front of those of the CDS
+pub exons-fit : (k : ℕ) (r : Rows) {n m : ℕ} → InOrder k r → n ≡ r .exons - (k + 1) → m ≡ 4096 → (k + n < r .exons) × (r .exons ≤ m)
+exons-fit k r i e f = let a = i .0 in let b = i .1 in let c = i .2 in let d = i .3 in let g = i .4 in (omega arith, omega arith)
 
 module _ (marks ids numbers starts ends : List ℕ) (k : ℕ) (r : Rows) where
   abbrev segs : List ℕ
@@ -54,24 +58,21 @@ module _ (marks ids numbers starts ends : List ℕ) (k : ℕ) (r : Rows) where
   apart : admission (at lent model) ≡ 0 → 0 < length segs → r .bounds ≡ r .exons → ⊥
   apart h l = eqb-false (r .bounds) (r .exons) (not-true (eqb (r .bounds) (r .exons)) (sym (coding-rows h) ∙ lt-ltb 0 (length segs) l))
 
-  module _ (i : InOrder k r) {m : TranscriptModel} (e : m ≡ model) where
-    pub exons-fit : (k + length (part (k + 1) (r .exons) starts) < r .exons) × (r .exons ≤ 4096)
-    exons-fit =
-        let a = i .0 in let b = i .1 in let c = i .2 in let d = i .3 in let f = i .4 in
-        let p = part-le (k + 1) (r .exons) starts in
-        (omega arith, omega arith)
-
-    pub segments-fit : admission (at lent m) ≡ 0 → 0 < length segs → r .exons + length segs < 4096
-    segments-fit h l =
+  -- the transcript and its segments, as they are lent
+  module _ {t : Transcript} {gs : List ℕ} (e : t ≡ transcriptIn marks ids numbers starts ends k r) (g : gs ≡ segs) where
+    pub segments-fit : {m : ℕ} → InOrder k r → m ≡ 4096 → admission t ≡ 0 → 0 < length gs → r .exons + length gs < m
+    unfolding transcriptIn
+    segments-fit i q h l =
         let a = i .1 in let b = i .2 in let c = i .3 in let d = i .4 in
-        let n = apart (rw e at h) l in
+        let f = ap length g in
+        let n = apart (rw e at h) (omega arith) in
         let p = part-le (r .bounds) (r .segments) starts in
         omega arith
 
-    pub row-summed : {s : Bool} (sums : List ℕ) → Summed (at lent m) (drop k sums) (drop (cond (ltb 0 (length segs)) (r .exons) k) sums) s
+    pub row-summed : {s : Bool} (sums : List ℕ) → Summed t (drop k sums) (drop (cond (ltb 0 (length gs)) (r .exons) k) sums) s
         → Summed (transcriptIn marks ids numbers starts ends k r) (drop k sums) (drop (cdsRow k r) sums) s
     unfolding transcriptIn
-    row-summed {s} sums x = let y : Summed (at lent model) (drop k sums) (drop (cond (ltb 0 (length segs)) (r .exons) k) sums) s = rw e at x in rw (cds-row-is (y .admitted)) at y
+    row-summed {s} sums x = let y : Summed (at lent model) (drop k sums) (drop (cond (ltb 0 (length segs)) (r .exons) k) sums) s = rw (e, g) at x in rw (cds-row-is (y .admitted)) at y
 
   module _ (i : InOrder k r) (h : admission (transcriptIn marks ids numbers starts ends k r) ≡ 0) where
     pub exons-end : k + length (oriented (transcriptIn marks ids numbers starts ends k r) .exons) < r .bases

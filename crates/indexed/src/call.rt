@@ -2,6 +2,11 @@
 use consequence::Call;
 use consequence::Called;
 use consequence::annotate_summed;
+use deck::part::base_part;
+use deck::part::exon_part;
+use deck::part::segment_exons;
+use deck::part::segment_part;
+use deck::part::segment_phases;
 use deck::rows::Rows;
 use deck::rows::model_in;
 ghost use mathlib.Core.Path.{_≡_};
@@ -48,6 +53,15 @@ fn cds_row(k: usize, rows: Rows) -> usize
     rows.exons
 }
 
+// The sums from a row on.
+fn sums_from(sums: &[u32; 4096], row: usize) -> &[u32]
+    requires { ⌜ row < 4096 ⌝ }
+    ensures { λ r. ⌜ now r ≡ drop row (now (sums .entry)) ⌝ }
+{
+    let all = &sums[..];
+    &all[row..]
+}
+
 // The answer to a call on the admitted transcript at row k.
 pub(crate) fn call_indexed(
     window_chromosome: u16,
@@ -68,32 +82,21 @@ pub(crate) fn call_indexed(
     requires { ⌜ Summed (transcriptIn (now marks) (now ids) (now numbers) (now starts) (now ends) k rows) (drop k (now sums)) (drop (cdsRow k rows) (now sums)) short ⌝ }
     ensures { λ r. ⌜ r ≡ annotateSnv sourceRanges (transcriptIn (now (marks .entry)) (now (ids .entry)) (now (numbers .entry)) (now (starts .entry)) (now (ends .entry)) k rows) (record { chromosome = «window_chromosome»; first = «window_first»; bytes = now (window .entry) }) call ⌝ }
 {
-    let from = k + 1;
-    let exons = rows.exons;
-    let bounds = rows.bounds;
-    let segments = rows.segments;
-    let bases = rows.bases;
-    let coding = cds_row(k, rows);
-    let all_marks = &marks[..];
-    let all_numbers = &numbers[..];
-    let all_starts = &starts[..];
-    let all_ends = &ends[..];
-    let all_sums = &sums[..];
     annotate_summed(
         window_chromosome,
         window_first,
         window,
         call,
         model_in(marks, ids, numbers, starts, ends, k, rows),
-        &all_starts[from..exons],
-        &all_ends[from..exons],
-        &all_marks[bounds..segments],
-        &all_numbers[bounds..segments],
-        &all_starts[bounds..segments],
-        &all_ends[bounds..segments],
-        &all_starts[segments..bases],
-        &all_sums[k..],
-        &all_sums[coding..],
+        exon_part(starts, k, rows),
+        exon_part(ends, k, rows),
+        segment_phases(marks, k, rows),
+        segment_exons(numbers, k, rows),
+        segment_part(starts, k, rows),
+        segment_part(ends, k, rows),
+        base_part(starts, k, rows),
+        sums_from(sums, k),
+        sums_from(sums, cds_row(k, rows)),
         short,
     )
 }

@@ -1,5 +1,10 @@
 // What is computed once for the transcripts of a table.
 use crate::TableIndex;
+use deck::part::base_part;
+use deck::part::exon_part;
+use deck::part::segment_exons;
+use deck::part::segment_part;
+use deck::part::segment_phases;
 use deck::rows::Rows;
 use deck::rows::model_in;
 use deck::rows::rows_at;
@@ -95,27 +100,18 @@ fn index_row(
     ensures { λ r. ⌜ KeptBelow row (now (sums .entry)) (now (sums .exit)) ⌝ }
     ensures { λ r. ⌜ (r .admitted ≡ true → Summed (transcriptIn (now (marks .entry)) (now (ids .entry)) (now (numbers .entry)) (now (starts .entry)) (now (ends .entry)) row rows) (drop row (now (sums .exit))) (drop (cdsRow row rows) (now (sums .exit))) (r .short)) ⌝ }
 {
-    let from = row + 1;
-    let exons = rows.exons;
-    let bounds = rows.bounds;
-    let segments = rows.segments;
-    let bases = rows.bases;
-    let all_marks = &marks[..];
-    let all_numbers = &numbers[..];
-    let all_starts = &starts[..];
-    let all_ends = &ends[..];
     index_transcript(
         sums,
         row,
-        exons,
+        rows.exons,
         model_in(marks, ids, numbers, starts, ends, row, rows),
-        &all_starts[from..exons],
-        &all_ends[from..exons],
-        &all_marks[bounds..segments],
-        &all_numbers[bounds..segments],
-        &all_starts[bounds..segments],
-        &all_ends[bounds..segments],
-        &all_starts[segments..bases],
+        exon_part(starts, row, rows),
+        exon_part(ends, row, rows),
+        segment_phases(marks, row, rows),
+        segment_exons(numbers, row, rows),
+        segment_part(starts, row, rows),
+        segment_part(ends, row, rows),
+        base_part(starts, row, rows),
     )
 }
 
