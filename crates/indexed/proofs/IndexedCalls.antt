@@ -2,20 +2,17 @@
 -- Assumes nothing.
 use mathlib.Core.Path.{_≡_}
 use Prim.Native.Nat.{ℕ, _≤_, _<_}
-use mathlib.Core.Bool.{Bool, true, false}
+use mathlib.Core.Bool.{Bool}
 use mathlib.Core.List.{List}
-use lib.ListN.{getD}
 use native.Mathlib.Omega.{arith}
 use lib.Dec.{eqb}
 use borrow.Author.Tests.{eqb-false}
 use Rattle.common.proofs.TestParts.{on-test}
 use Rattle.transcript.specs.Transcript.{Transcript}
 use Rattle.consequence.specs.Prepared.{Summed}
-use Rattle.deck.specs.declared.DeckTable.{DeckTable}
 use Rattle.deck.specs.declared.rows.Rows.{Rows}
 use Rattle.deck.specs.Table.{InOrder}
-use Rattle.indexed.specs.declared.TableIndex.{TableIndex}
-use Rattle.indexed.specs.TableIndex.{cdsRow, rowsIn, IndexedAt, TableIndexed}
+use Rattle.indexed.specs.TableIndex.{cdsRow}
 
 -- the sums of the CDS begin inside the table
 pub row-low : (k : ℕ) (r : Rows) → InOrder k r → cdsRow k r < 4096
@@ -29,7 +26,3 @@ row-low k r h =
 -- a transcript lent part by part, with its sums
 pub summed-as : {t u : Transcript} {a b c d : List ℕ} {s : Bool} → t ≡ u → a ≡ b → c ≡ d → Summed u b d s → Summed t a c s
 summed-as e f g h = rw (e, f, g) h
-
--- a row that is marked as admitted, with the rows read from the columns
-pub indexed-row : (t : DeckTable) (x : TableIndex) (k : ℕ) {r : Rows} → TableIndexed t x → getD (x .admitted) k false ≡ true → r ≡ rowsIn x k → IndexedAt t k r (getD (x .short) k false) (x .sums)
-indexed-row t x k h e q = rw q (h .at k e)

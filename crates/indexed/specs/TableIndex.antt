@@ -1,37 +1,79 @@
--- What is computed once for the transcripts of a table: at the row of an admitted transcript where its parts end and whether it
--- has a short intron, and from there on the cumulative lengths of its exons and of its CDS.
-use Prim.Native.Nat.{ℕ, _<_}
-use mathlib.Core.Path.{_≡_}
-use mathlib.Core.Bool.{Bool, true, false, cond}
-use mathlib.Core.List.{List}
-use lib.ListN.{length, getD, drop}
+-- What is computed once for the transcripts of a table: at a transcript's row whether it is admitted, whether it has a short
+-- intron, and where its parts end; from there on the cumulative lengths of its exons and of its CDS.
+use Prim.Native.Nat.{ℕ}
+use mathlib.Core.Bool.{Bool, false, cond, _&&_}
+use mathlib.Core.List.{List, [], _∷_, map}
+use lib.ListN.{set, replicate}
 use lib.Dec.{eqb}
-use Rattle.consequence.specs.Prepared.{Summed}
+use Rattle.common.specs.Lists.{any}
+use Rattle.common.specs.Stored.{stored}
+use Rattle.transcript.specs.Transcript.{Transcript}
+use Rattle.transcript.specs.Orient.{Oriented, oriented}
+use Rattle.transcript.specs.Bases.{size, gaps}
+use Rattle.transcript.specs.Admission.{admission}
+use Rattle.footprint.specs.ShortIntron.{isFrameshiftGap}
+use Rattle.locate.specs.Index.{cumulative}
 use Rattle.deck.specs.declared.DeckTable.{DeckTable}
 use Rattle.deck.specs.declared.rows.Rows.{Rows}
-use Rattle.deck.specs.Table.{rowsAt, InOrder, transcriptIn}
+use Rattle.deck.specs.Table.{rowsAt, transcriptAt, transcriptRows}
 use Rattle.indexed.specs.declared.TableIndex.{TableIndex}
+use Rattle.indexed.specs.declared.row.RowIndex.{RowIndex}
 
--- where the sums of the CDS begin: at the row of its bounds; where there is none, at the transcript's row, whose sum is 0
+abbrev pub isAdmitted : Transcript → Bool
+isAdmitted t = eqb (admission t) 0
+
+-- whether the transcript is admitted, and then whether it has a short intron
+abbrev pub rowIndex : Transcript → RowIndex
+rowIndex t = record { admitted = isAdmitted t; short = isAdmitted t && any isFrameshiftGap (gaps (oriented t .exons)) }
+
+-- a column of sums with the cumulative lengths of the exons, from row k on
+abbrev pub withExons : Oriented → ℕ → List ℕ → List ℕ
+withExons o k sums = stored sums k (cumulative 0 (map size (o .exons)))
+
+-- and with those of the CDS, if there is one, from row c on
+abbrev pub withCds : Oriented → ℕ → List ℕ → List ℕ
+withCds o c sums = cond (o .coding) (stored sums c (cumulative (o .pad) (map size (o .segments)))) sums
+
+-- the column behind a transcript at row k with bounds at row c: its sums stand there if it is admitted
+abbrev pub rowSums : Transcript → ℕ → ℕ → List ℕ → List ℕ
+rowSums t k c sums = cond (isAdmitted t) (withCds (oriented t) c (withExons (oriented t) k sums)) sums
+
+-- the index with the transcript at row k, whose bounds, if it has them, stand behind its exons
+unfoldable pub indexRow : DeckTable → ℕ → TableIndex → TableIndex
+indexRow t k x =
+    let i = rowIndex (transcriptAt t k) in
+    let r = rowsAt (t .kinds) k in
+    record {
+      admitted = set (x .admitted) k (i .admitted);
+      short = set (x .short) k (i .short);
+      exons = set (x .exons) k (r .exons);
+      bounds = set (x .bounds) k (r .bounds);
+      segments = set (x .segments) k (r .segments);
+      bases = set (x .bases) k (r .bases);
+      sums = rowSums (transcriptAt t k) k (r .exons) (x .sums);
+    }
+
+-- with the transcripts at these rows
+abbrev pub indexRows : DeckTable → List ℕ → TableIndex → TableIndex
+indexRows t [] x = x
+indexRows t (k ∷ ks) x = indexRows t ks (indexRow t k x)
+
+-- before the first of them
+unfoldable pub emptyIndex : TableIndex
+emptyIndex = record {
+  admitted = replicate 4096 false;
+  short = replicate 4096 false;
+  exons = replicate 4096 0;
+  bounds = replicate 4096 0;
+  segments = replicate 4096 0;
+  bases = replicate 4096 0;
+  sums = replicate 4096 0;
+}
+
+-- the index of a table
+abbrev pub tableIndex : DeckTable → TableIndex
+tableIndex t = indexRows t (transcriptRows t) emptyIndex
+
+-- where the sums of the CDS are read: at the row of its bounds; where there is none, at the transcript's row, whose sum is 0
 abbrev pub cdsRow : ℕ → Rows → ℕ
 cdsRow k r = cond (eqb (r .bounds) (r .exons)) k (r .exons)
-
--- the columns at row k
-abbrev pub rowsIn : TableIndex → ℕ → Rows
-rowsIn x k = record { exons = getD (x .exons) k 0; bounds = getD (x .bounds) k 0; segments = getD (x .segments) k 0; bases = getD (x .bases) k 0 }
-
--- sums of which nothing changed before row k
-pub record KeptBelow (k : ℕ) (before after : List ℕ) : Type 0 where
-  pub count : length after ≡ length before
-  pub same : (j : ℕ) → j < k → getD after j 0 ≡ getD before j 0
-
--- an admitted transcript at row k, with these rows, this mark for a short intron and these sums
-pub record IndexedAt (t : DeckTable) (k : ℕ) (r : Rows) (short : Bool) (sums : List ℕ) : Type 0 where
-  pub rows-are : r ≡ rowsAt (t .kinds) k
-  pub order : InOrder k r
-  pub summed : Summed (transcriptIn (t .marks) (t .ids) (t .numbers) (t .starts) (t .ends) k r) (drop k sums) (drop (cdsRow k r) sums) short
-
--- every row that is marked as admitted is indexed
-pub record TableIndexed (t : DeckTable) (x : TableIndex) : Type 0 where
-  pub marks : length (x .admitted) ≡ 4096
-  pub at : (k : ℕ) → getD (x .admitted) k false ≡ true → IndexedAt t k (rowsIn x k) (getD (x .short) k false) (x .sums)

@@ -13,7 +13,7 @@ use listing::step::line_listed;
 use listing::step::malformed_line;
 use listing::step::next_called;
 ghost use mathlib.Core.Path.{_≡_};
-ghost use Rattle.indexed.specs.TableIndex.{TableIndexed};
+ghost use Rattle.indexed.specs.TableIndex.{tableIndex};
 ghost use Rattle.listing.specs.Steps.{nextCalled, nextLine, listedAs, listedTo, Advances};
 
 // The line of one call for the transcript at the cursor.
@@ -39,7 +39,7 @@ fn next_called_indexed(
     behind: Cursor,
     out: &mut [u8],
 ) -> Listed
-    requires { ⌜ TableIndexed (record { kinds = now kinds; marks = now marks; ids = now ids; numbers = now numbers; starts = now starts; ends = now ends }) (record { admitted = now admitted; short = now short; exons = now exons; bounds = now bounds; segments = now segments; bases = now bases; sums = now sums }) ⌝ }
+    requires { ⌜ record { admitted = now admitted; short = now short; exons = now exons; bounds = now bounds; segments = now segments; bases = now bases; sums = now sums } ≡ tableIndex (record { kinds = now kinds; marks = now marks; ids = now ids; numbers = now numbers; starts = now starts; ends = now ends }) ⌝ }
     ensures { λ r. ⌜ (r ≡ listedAs (now (out .entry)) (nextCalled (record { kinds = now (kinds .entry); marks = now (marks .entry); ids = now (ids .entry); numbers = now (numbers .entry); starts = now (starts .entry); ends = now (ends .entry) }) (record { chromosome = «window_chromosome»; first = «window_first»; bytes = now (window .entry) }) cursor behind call)) × (now (out .exit) ≡ listedTo (now (out .entry)) (nextCalled (record { kinds = now (kinds .entry); marks = now (marks .entry); ids = now (ids .entry); numbers = now (numbers .entry); starts = now (starts .entry); ends = now (ends .entry) }) (record { chromosome = «window_chromosome»; first = «window_first»; bytes = now (window .entry) }) cursor behind call)) ⌝ }
 {
     let row = cursor.row;
@@ -106,7 +106,7 @@ pub fn next_line_indexed(
     cursor: Cursor,
     out: &mut [u8],
 ) -> Listed
-    requires { ⌜ TableIndexed (record { kinds = now kinds; marks = now marks; ids = now ids; numbers = now numbers; starts = now starts; ends = now ends }) (record { admitted = now admitted; short = now short; exons = now exons; bounds = now bounds; segments = now segments; bases = now bases; sums = now sums }) ⌝ }
+    requires { ⌜ record { admitted = now admitted; short = now short; exons = now exons; bounds = now bounds; segments = now segments; bases = now bases; sums = now sums } ≡ tableIndex (record { kinds = now kinds; marks = now marks; ids = now ids; numbers = now numbers; starts = now starts; ends = now ends }) ⌝ }
     ensures { λ r. ⌜ (r ≡ listedAs (now (out .entry)) (nextLine (record { kinds = now (kinds .entry); marks = now (marks .entry); ids = now (ids .entry); numbers = now (numbers .entry); starts = now (starts .entry); ends = now (ends .entry) }) (record { chromosome = «window_chromosome»; first = «window_first»; bytes = now (window .entry) }) (now (calls .entry)) cursor)) × (now (out .exit) ≡ listedTo (now (out .entry)) (nextLine (record { kinds = now (kinds .entry); marks = now (marks .entry); ids = now (ids .entry); numbers = now (numbers .entry); starts = now (starts .entry); ends = now (ends .entry) }) (record { chromosome = «window_chromosome»; first = «window_first»; bytes = now (window .entry) }) (now (calls .entry)) cursor)) ⌝ }
     ensures { λ r. ⌜ Advances (now (calls .entry)) cursor (now (out .entry)) r ⌝ }
 {

@@ -1,27 +1,44 @@
 -- `indexed::index::index_table` meets its contract.
 -- Assumes nothing.
-use mathlib.Core.Path.{sym}
+use mathlib.Core.Path.{_≡_, refl, sym, _∙_}
 use native.Mathlib.Omega.{arith}
 use denote.Ref.{now}
-use Prim.Native.Nat.{_-_, _<_}
-use Rattle.indexed.proofs.IndexTable.{Indexing, inside-table, indexing-more, indexing-none, table-indexed}
+use lib.ListN.{length, length-replicate}
+use Rattle.deck.specs.declared.DeckTable.{DeckTable}
+use Rattle.deck.proofs.RowOrder.{rowsOn}
+use Rattle.indexed.specs.TableIndex.{indexRows, emptyIndex, tableIndex}
+use Prim.Native.Nat.{ℕ, _-_, _<_}
+use Rattle.indexed.proofs.RowsInOrder.{inside-table}
+use Rattle.indexed.proofs.WholeIndex.{index-on, index-end}
 use Rattle.indexed.proofs.index.index_table.Statement.{statement}
 use Rattle.indexed.proofs.index.index_table.Tie as tie
 
 abbrev Inv-loop : tie.InvT-loop
 Inv-loop kinds marks ids numbers starts ends admitted₀ short₀ exons₀ bounds₀ segments₀ bases₀ sums₀ row₀ admitted short exons bounds segments bases sums row =
-    Indexing (record { kinds = kinds; marks = marks; ids = ids; numbers = numbers; starts = starts; ends = ends }) (record { admitted = admitted; short = short; exons = exons; bounds = bounds; segments = segments; bases = bases; sums = sums }) row
+    let t : DeckTable = record { kinds = kinds; marks = marks; ids = ids; numbers = numbers; starts = starts; ends = ends } in
+    (length sums ≡ 4096) × (indexRows t (rowsOn kinds row) (record { admitted = admitted; short = short; exons = exons; bounds = bounds; segments = segments; bases = bases; sums = sums }) ≡ tableIndex t)
 
 abbrev μ-loop : tie.MeasureT-loop
 μ-loop kinds marks ids numbers starts ends admitted₀ short₀ exons₀ bounds₀ segments₀ bases₀ sums₀ row₀ admitted short exons bounds segments bases sums row =
     4096 - row
 
+abbrev table : tie.Start Inv-loop μ-loop → DeckTable
+table s = record {
+  kinds = now (s .args .kinds);
+  marks = now (s .args .marks);
+  ids = now (s .args .ids);
+  numbers = now (s .args .numbers);
+  starts = now (s .args .starts);
+  ends = now (s .args .ends);
+}
+
 -- a row at which a transcript stands lies in the table
 low : (c : tie.Then1 Inv-loop μ-loop) → c .before .before .loop .row < 4096
-low c = inside-table (now (c .before .before .before .args .kinds)) (c .before .before .loop .row) (c .before .is-transcript .ensures) (c .if1 .taken)
+low c = inside-table (now (c .before .before .before .args .kinds)) 1 (c .before .before .loop .row) (c .before .is-transcript .ensures) (c .if1 .taken)
 
 loop-holds : tie.Need-loop-holds Inv-loop μ-loop
-loop-holds c = let a = c .args in indexing-none (record { kinds = now (a .kinds); marks = now (a .marks); ids = now (a .ids); numbers = now (a .numbers); starts = now (a .starts); ends = now (a .ends) })
+unfolding emptyIndex
+loop-holds c = (length-replicate {A = ℕ} 4096 0, refl)
 
 is-transcript-requires : tie.Need-is-transcript-requires Inv-loop μ-loop
 is-transcript-requires c κs = tt
@@ -30,10 +47,10 @@ rows-at-requires : tie.Need-rows-at-requires Inv-loop μ-loop
 rows-at-requires c κs = low c
 
 slice-aggregate-index-row : tie.Need-slice-aggregate-index-row Inv-loop μ-loop
-slice-aggregate-index-row c = sym (c .before .before .before .before .loop .inv .sums)
+slice-aggregate-index-row c = sym (c .before .before .before .before .loop .inv .0)
 
 index-row-requires : tie.Need-index-row-requires Inv-loop μ-loop
-index-row-requires c κs = (c .before .rows-at .ensures .1, c .before .before .before .before .loop .inv .sums)
+index-row-requires c κs = (c .before .rows-at .ensures .1, c .before .before .before .before .loop .inv .0)
 
 array-write-admitted : tie.Need-array-write-admitted Inv-loop μ-loop
 array-write-admitted c = low (c .before .before .before .before)
@@ -82,17 +99,16 @@ loop-less c = let i = c .before .before .before .before .before .before .before 
 
 loop-again : tie.Need-loop-again Inv-loop μ-loop
 loop-again c =
-    let a = c .before .before .before .before .before .before .before .before .before .before .before .args in
     let l = c .before .before .before .before .before .before .before .before .before .before .loop in
+    let w = c .before .before .before .before .before .before .before .before in
     let r = c .before .before .before .before .before .before .before .rows-at in
     let x = c .before .before .before .before .before .index-row in
-    indexing-more (record { kinds = now (a .kinds); marks = now (a .marks); ids = now (a .ids); numbers = now (a .numbers); starts = now (a .starts); ends = now (a .ends) }) (record { admitted = l .admitted; short = l .short; exons = l .exons; bounds = l .bounds; segments = l .segments; bases = l .bases; sums = l .sums }) (l .row) (l .inv) (low (c .before .before .before .before .before .before .before .before)) (r .result) (r .ensures .1) (r .ensures .0) (x .result .admitted) (x .result .short) _ (x .ensures .0) (x .ensures .1)
+    (x .kept .1 .1 .1 .1 .1 .1 .1 .0 ∙ l .inv .0, index-on (table (c .before .before .before .before .before .before .before .before .before .before .before)) (l .row) (record { admitted = l .admitted; short = l .short; exons = l .exons; bounds = l .bounds; segments = l .segments; bases = l .bases; sums = l .sums }) (w .before .is-transcript .ensures) (w .if1 .taken) (r .ensures .0) (x .ensures .0) (x .ensures .1) ∙ l .inv .1)
 
 returns : tie.Need-returns Inv-loop μ-loop
 returns c =
-    let a = c .before .before .before .args in
     let l = c .before .before .loop in
-    table-indexed (record { kinds = now (a .kinds); marks = now (a .marks); ids = now (a .ids); numbers = now (a .numbers); starts = now (a .starts); ends = now (a .ends) }) (record { admitted = l .admitted; short = l .short; exons = l .exons; bounds = l .bounds; segments = l .segments; bases = l .bases; sums = l .sums }) (l .row) (l .inv)
+    index-end (table (c .before .before .before)) (l .row) (record { admitted = l .admitted; short = l .short; exons = l .exons; bounds = l .bounds; segments = l .segments; bases = l .bases; sums = l .sums }) (c .before .is-transcript .ensures) (c .if1 .left) ∙ l .inv .1
 
 pub index-table-spec : {M : Type 1} → statement M
 index-table-spec =

@@ -4,8 +4,8 @@ use Rattle.listing.proofs.Advancing.{row-inside}
 use Rattle.listing.proofs.Answering.{called-none, called-line, line-put, nothing-put}
 use Rattle.indexed.specs.declared.TableIndex.{TableIndex}
 use Rattle.lines.specs.Line.{calledLine}
-use Rattle.indexed.specs.TableIndex.{IndexedAt}
-use Rattle.indexed.proofs.IndexedCalls.{indexed-row}
+use Rattle.indexed.proofs.IndexTable.{IndexedAt}
+use Rattle.indexed.proofs.WholeIndex.{indexed-row}
 use Rattle.deck.specs.declared.DeckTable.{DeckTable}
 use Rattle.consequence.specs.Window.{Window}
 use borrow.Author.Tests.{not-true, not-false}

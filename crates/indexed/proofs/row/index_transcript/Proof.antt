@@ -1,26 +1,21 @@
--- `indexed::index::index_transcript` meets its contract.
+-- `indexed::row::index_transcript` meets its contract.
 -- Assumes nothing.
-use mathlib.Core.Path.{_≡_, sym, _∙_, ap}
-use mathlib.Core.List.{List, map}
+use mathlib.Core.Path.{_≡_}
+use mathlib.Core.List.{List}
 use Prim.Native.Nat.{ℕ}
 use native.Mathlib.Omega.{arith}
 use denote.Ref.{now}
-use lib.ListN.{length}
-use lib.Seq.{length-sets}
-use Rattle.common.proofs.TestParts.{true-false}
 use Rattle.transcript.specs.declared.TranscriptModel.{TranscriptModel}
 use Rattle.transcript.specs.Transcript.{exonsOf, lent}
 use Rattle.transcript.specs.Admission.{admission}
-use Rattle.transcript.specs.Lent.{exonSize}
-use Rattle.transcript.proofs.Asking.{admitted-is}
+use Rattle.transcript.proofs.Asking.{admitted-is, refused-some}
 use Rattle.transcript.proofs.LentFacts.{pad-low}
-use Rattle.locate.specs.Index.{cumulative}
 use Rattle.locate.proofs.LentTranscript.{ad}
 use Rattle.locate.proofs.LentIndex.{sizes-bound}
-use Rattle.indexed.proofs.IndexSums.{kept-all, kept-on, kept-stored, indexed-alone, indexed-coding}
+use Rattle.indexed.proofs.IndexedTranscript.{refused-row, row-alone, row-coding}
 use borrow.Author.Needs.{needs}
-use Rattle.indexed.proofs.index.index_transcript.Statement.{statement}
-use Rattle.indexed.proofs.index.index_transcript.Tie as tie
+use Rattle.indexed.proofs.row.index_transcript.Statement.{statement}
+use Rattle.indexed.proofs.row.index_transcript.Tie as tie
 
 -- a law about the transcript's parts, at them
 abbrev on : (b : tie.Start) → {P : TranscriptModel → List ℕ → List ℕ → List ℕ → List ℕ → List ℕ → List ℕ → List ℕ → Type 0}
@@ -41,7 +36,10 @@ enum-told-2 : tie.Need-enum-told-2
 enum-told-2 c = search needs
 
 returns : tie.Need-returns
-returns c = let b = c .before .before .before .before .before .before .before .before .before .before .before in (kept-all (b .args .row) (now (b .args .sums)), λ e. absurd (true-false (sym e)))
+returns c =
+    let b = c .before .before .before .before .before .before .before .before .before .before .before in
+    let a = c .before .before .admit in
+    refused-row (on b lent) (b .args .row) (b .args .cds-row) (now (b .args .sums)) (refused-some (on b lent) (a .result) (a .ensures) _ (c .enum-told2 .given .1))
 
 has-frameshift-intron-requires : tie.Need-has-frameshift-intron-requires
 has-frameshift-intron-requires c κs = let b = c .before .before .before .before .before .before .before .before .before .before .before in let k = on b ad (admitted c) in (k .even, k .edges)
@@ -60,11 +58,9 @@ same-length c = search needs
 returns-2 : tie.Need-returns-2
 returns-2 c =
     let b = c .before .before .before .before .before .before .before .before .before .before .before .before .before .before .before .before .before in
+    let f = c .before .before .before .before .before .has-frameshift-intron in
     let s = c .before .before .before .store-sums in
-    let q = b .pre .0 in (
-      kept-stored (b .args .row) (b .args .row) (cumulative 0 (map exonSize (exonsOf (now (b .args .exon-starts)) (now (b .args .exon-ends))))) (now (b .args .sums)) (s .last .0) (omega arith) (s .ensures),
-      λ e. on b indexed-alone (admitted (c .before .before .before .before .before .before)) (b .args .row) (b .args .cds-row) (c .before .before .before .before .before .has-frameshift-intron .result) (c .before .before .before .before .before .has-frameshift-intron .ensures) (now (b .args .sums)) (s .last .0) (s .ensures) (omega arith) (omega arith),
-    )
+    on b row-alone (admitted (c .before .before .before .before .before .before)) (b .args .row) (b .args .cds-row) (now (b .args .sums)) (f .result) (s .last .0) (f .ensures) (s .ensures) (omega arith)
 
 pad-of-requires : tie.Need-pad-of-requires
 pad-of-requires c κs = on (c .before .before .before .before .before .before .before .before .before .before .before .before .before .before .before .before .before) ad (admitted (c .before .before .before .before .before .before)) .over
@@ -81,7 +77,7 @@ store-sums-requires-2 c κs =
     let p = pad-low (now (b .args .seg-phases)) in
     let e = c .before .pad-of .ensures in
     let f = b .pre .1 h (omega arith) in
-    let n = ap length (c .before .before .before .before .before .store-sums .ensures) ∙ length-sets (now (b .args .sums)) (b .args .row) (cumulative 0 (map exonSize (exonsOf (now (b .args .exon-starts)) (now (b .args .exon-ends))))) in
+    let n = c .before .before .before .before .before .store-sums .kept .0 in
     ((k .even-segments .ends, omega arith), (k .segment-edges, omega arith))
 
 same-length-2 : tie.Need-same-length-2
@@ -90,17 +86,11 @@ same-length-2 c = search needs
 returns-3 : tie.Need-returns-3
 returns-3 c =
     let b = c .before .before .before .before .before .before .before .before .before .before .before .before .before .before .before .before .before .before .before .before .before .before in
-    let h = admitted (c .before .before .before .before .before .before .before .before .before .before .before) in
+    let f = c .before .before .before .before .before .before .before .before .before .before .has-frameshift-intron in
     let s = c .before .before .before .before .before .before .before .before .store-sums in
-    let t = c .before .before .store-sums2 in
     let p = c .before .before .before .before .pad-of in
-    let q = b .pre .0 in
-    let f = b .pre .1 h (omega arith) in (
-      kept-on (kept-stored (b .args .row) (b .args .row) (cumulative 0 (map exonSize (exonsOf (now (b .args .exon-starts)) (now (b .args .exon-ends))))) (now (b .args .sums)) (s .last .0) (omega arith) (s .ensures))
-          (kept-stored (b .args .row) (b .args .cds-row) (cumulative (p .result) (map exonSize (exonsOf (now (b .args .seg-starts)) (now (b .args .seg-ends))))) (s .last .0) (t .last .0) (omega arith) (t .ensures)),
-      λ e. on b indexed-coding h (b .args .row) (b .args .cds-row) (c .before .before .before .before .before .before .before .before .before .before .has-frameshift-intron .result) (c .before .before .before .before .before .before .before .before .before .before .has-frameshift-intron .ensures) (now (b .args .sums)) (s .last .0) (s .ensures) (omega arith)
-          (p .result) (p .ensures) (t .last .0) (t .ensures) (omega arith) f (omega arith),
-    )
+    let t = c .before .before .store-sums2 in
+    on b row-coding (admitted (c .before .before .before .before .before .before .before .before .before .before .before)) (b .args .row) (b .args .cds-row) (now (b .args .sums)) (f .result) (s .last .0) (f .ensures) (s .ensures) (p .result) (t .last .0) (p .ensures) (t .ensures) (omega arith)
 
 pub index-transcript-spec : {M : Type 1} → statement M
 index-transcript-spec =

@@ -1,14 +1,14 @@
--- `indexed::index::index_row` meets its contract.
+-- `indexed::row::index_row` meets its contract.
 -- Assumes nothing.
 use mathlib.Core.Path.{_≡_}
 use denote.Ref.{now}
 use Rattle.transcript.specs.Transcript.{lent}
 use Rattle.deck.specs.Table.{transcriptIn}
 use Rattle.deck.proofs.Runs.{lent-in}
-use Rattle.indexed.proofs.IndexRows.{exons-fit, segments-fit, row-summed}
+use Rattle.indexed.proofs.IndexRows.{exons-fit, segments-fit}
 use borrow.Author.Needs.{needs}
-use Rattle.indexed.proofs.index.index_row.Statement.{statement}
-use Rattle.indexed.proofs.index.index_row.Tie as tie
+use Rattle.indexed.proofs.row.index_row.Statement.{statement}
+use Rattle.indexed.proofs.row.index_row.Tie as tie
 
 -- the transcript, from the parts that are lent
 is-lent : (c : tie.After-base-part) → let a = c .before .before .before .before .before .before .before .before .before .before .args in
@@ -55,10 +55,7 @@ same-length : tie.Need-same-length
 same-length c = search needs
 
 returns : tie.Need-returns
-returns c =
-    let a = c .before .before .before .before .before .before .before .before .before .before .before .before .before .args in
-    let x = c .before .before .index-transcript in
-    (x .ensures .0, λ t. row-summed (now (a .marks)) (now (a .ids)) (now (a .numbers)) (now (a .starts)) (now (a .ends)) (a .row) (a .rows) (is-lent (c .before .before .before)) (c .before .before .before .before .before .segment-part .ensures) (x .last .0) (x .ensures .1 t))
+returns c = rw (← is-lent (c .before .before .before)) (c .before .before .index-transcript .ensures)
 
 pub index-row-spec : {M : Type 1} → statement M
 index-row-spec =
