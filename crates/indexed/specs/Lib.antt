@@ -1,1 +1,2 @@
 pub mod TableIndex
+pub mod Marked
