@@ -71,9 +71,6 @@ stored-at (v ∷ vs) l at (suc k) f h =
     let n = length-set l at v in
     rw e (stored-at vs (set l at v) (suc at) k (omega arith) (omega arith))
 
-pub stored-front : (l vs : List ℕ) (k : ℕ) → length vs ≤ length l → k < length vs → getD (stored l 0 vs) k 0 ≡ getD vs k 0
-stored-front l vs k f h = let e : 0 + k ≡ k = omega arith in rw e at (stored-at vs l 0 k (omega arith) h)
-
 -- numbers at the front of zeros
 drop-zeros : (k n : ℕ) → drop k (replicate {A = ℕ} n 0) ≡ replicate (n - k) 0
 drop-zeros zero n = let e : n - 0 ≡ n = omega arith in rw e

@@ -2,7 +2,7 @@
 -- Assumes nothing.
 use Prim.Native.Nat.{ℕ, _+_, _-_, _/_, _≤_, _<_, min, max}
 use mathlib.Core.Path.{_≡_, sym, _∙_, ap}
-use mathlib.Core.Bool.{Bool, true, false}
+use mathlib.Core.Bool.{Bool, true}
 use mathlib.Core.List.{List, [], _∷_}
 use native.Mathlib.Omega.{arith}
 use lib.ListN.{length, getD, replicate, length-map, length-append}
@@ -11,10 +11,10 @@ use Rattle.common.specs.Lists.{any}
 use Rattle.common.proofs.TestParts.{on-test, true-false}
 use Rattle.transcript.specs.declared.TranscriptModel.{TranscriptModel}
 use Rattle.transcript.specs.Limits.{top}
-use Rattle.transcript.specs.Transcript.{Transcript, exonsOf, lent}
+use Rattle.transcript.specs.Transcript.{Transcript, lent}
 use Rattle.transcript.specs.Orient.{Interval, orientExon, orientBase, Oriented, oriented}
 use Rattle.transcript.specs.Bases.{inside, insideAny, sum, basesIn, totalSize}
-use Rattle.transcript.specs.Admission.{badExon, admission}
+use Rattle.transcript.specs.Admission.{admission}
 use Rattle.transcript.proofs.Listed.{nowhere}
 use Rattle.transcript.proofs.Orient.{inside-start, inside-end}
 use Rattle.footprint.specs.Ranges.{sourceRanges}

@@ -7,7 +7,7 @@ use native.Mathlib.Omega.{arith}
 use lib.Dec.{leb, ltb, eqb}
 use borrow.Author.Tests.{lt-ltb, le-ltb, ltb-true, ltb-false, eqb-true, eq-eqb}
 use Rattle.common.proofs.TestParts.{on-test, same-test, and-true, true-false}
-use Rattle.transcript.specs.Orient.{Interval, interval}
+use Rattle.transcript.specs.Orient.{interval}
 use Rattle.footprint.specs.ShortIntron.{isFrameshiftGap, overlap, hits, donorWindow, acceptorWindow, spillsInto}
 
 -- a base that hits a window lies in it and not in the gap, which has a base

@@ -1,2 +1,1 @@
 pub mod TableIndex
-pub mod Marked

@@ -1,13 +1,11 @@
 -- A line put into a lent buffer, or 28.
 -- Assumes nothing.
 use Prim.Native.Nat.{ℕ, _+_, _≤_, _<_}
-use mathlib.Core.Path.{_≡_, refl, sym, _∙_}
+use mathlib.Core.Path.{_≡_, refl, _∙_}
 use mathlib.Core.List.{List, [], _∷_, _++_}
 use native.Mathlib.Omega.{arith}
 use lib.ListN.{length, length-append}
-use mathlib.Core.Bool.{Bool, true, false, cond}
-use lib.Dec.{leb}
-use borrow.Author.Tests.{le-leb, lt-leb, leb-true}
+use borrow.Author.Tests.{le-leb, lt-leb}
 use Rattle.common.specs.Text.{decimal}
 use Rattle.common.specs.Stored.{stored, Pushed}
 use Rattle.common.proofs.Stored.{stored-whole, stored-empty}
@@ -46,11 +44,3 @@ put-whole out line {after} {n} h q =
 
 pub number-length : (n e : ℕ) → length (decimal n ++ (e ∷ [])) ≤ 21
 number-length n e = let a = length-append (decimal n) (e ∷ []) in let b = digits-length 20 n in omega arith
-
--- a line that was put stands within the buffer
-pub within : {w : Written} {n : ℕ} (out line : List ℕ) → w ≡ writeAnswer out line → w ≡ Written.Bytes n → n ≤ length out
-within {w} {n} out line e f = here (leb (length line) (length out)) refl (sym f ∙ e)
-  where
-    here : (t : Bool) → leb (length line) (length out) ≡ t → Written.Bytes n ≡ cond t (Written.Bytes (length line)) (Written.Refused 28) → n ≤ length out
-    here true h g = let k : n ≡ length line = cc in let l = leb-true (length line) (length out) h in omega arith
-    here false h g = absurd (let z : _≡_ {A = ℕ} 0 1 = cc in omega arith)

@@ -35,7 +35,7 @@ use Rattle.transcript.proofs.Admitted.{ascending-exons, exons-high}
 use Rattle.transcript.proofs.Orient.{inside-by}
 use Rattle.transcript.proofs.Listed.{nowhere}
 use Rattle.locate.proofs.Sums.{sizes-le}
-use Rattle.locate.proofs.Offset.{first-sum, sums-of, sum-last, index-exons, index-cds}
+use Rattle.locate.proofs.Offset.{sum-last, index-exons, index-cds}
 use Rattle.locate.proofs.CodingExons.{firstExon, first-is, first-holds, last-exon}
 use Rattle.locate.proofs.LentTranscript.{known, ad, exons-are, segments-are, bases-are, count, segment-count, coding-is, cds-is, pad-is, pad-2, head-is}
 
@@ -72,23 +72,6 @@ module _ (m : TranscriptModel) (ss es ps is gs ge bs : List ℕ) (h : admission 
 
   segment-sizes : map exonSize (exonsOf gs ge) ≡ map size (o .segments)
   segment-sizes = sym (ap (map size) (segments-are m ss es ps is gs ge bs h) ∙ sizes-turned (m .strand) (exonsOf gs ge) (ad m ss es ps is gs ge bs h .segment-edges))
-
-  -- sums that were stored, from those of the lists lent
-  pub exon-sums : (sums : List ℕ) → length ss < length sums → ((k : ℕ) → k ≤ length ss → getD sums k 0 ≡ getD (cumulative 0 (map exonSize (exonsOf ss es))) k 0) → ExonSums o sums
-  exon-sums sums l e =
-      let n = count m ss es ps is gs ge bs h in
-      let f : (k : ℕ) → k ≤ length (o .exons) → getD sums k 0 ≡ getD (cumulative 0 (map size (o .exons))) k 0
-      = λ k i. e k (omega arith) ∙ ap (λ (ns : List ℕ). getD (cumulative 0 ns) k 0) exon-sizes in
-      (sums-of 0 (o .exons) sums (omega arith) f (omega arith), first-sum 0 (o .exons) sums (omega arith) f)
-
-  pub cds-sums : (pad : ℕ) → pad ≡ padOfPhases ps → (sums : List ℕ) → length gs < length sums
-      → ((k : ℕ) → k ≤ length gs → getD sums k 0 ≡ getD (cumulative pad (map exonSize (exonsOf gs ge))) k 0) → CdsSums o sums
-  cds-sums pad q sums l e =
-      let n = segment-count m ss es ps is gs ge bs h in
-      let p = q ∙ sym (pad-is m ss es ps is gs ge bs h) in
-      let f : (k : ℕ) → k ≤ length (o .segments) → getD sums k 0 ≡ getD (cumulative (o .pad) (map size (o .segments))) k 0
-      = λ k i. e k (omega arith) ∙ (λ j. getD (cumulative (p j) (segment-sizes j)) k 0) in
-      (sums-of (o .pad) (o .segments) sums (omega arith) f (pad-2 m ss es ps is gs ge bs h), first-sum (o .pad) (o .segments) sums (omega arith) f)
 
   pub exon-array : filled 513 (cumulative 0 (map exonSize (exonsOf ss es))) ≡ locateIndex o .«cumulative_exons»
   exon-array = ap (λ (ns : List ℕ). filled 513 (cumulative 0 ns)) exon-sizes

@@ -5,11 +5,10 @@ use mathlib.Core.Path.{_≡_, refl, sym, _∙_, ap}
 use mathlib.Core.Bool.{Bool, true, false, cond}
 use mathlib.Core.List.{List, [], _∷_, _++_, map, append-assoc, append-nil}
 use native.Mathlib.Omega.{arith}
-use lib.Dec.{ltb, eqb}
+use lib.Dec.{ltb}
 use lib.ListN.{length, take, set, replicate, length-set, length-map, length-replicate}
 use lib.Seq.{take-suc-set}
 use borrow.Author.Tests.{ltb-true, ltb-false, lt-ltb, ne-eqb, eq-eqb}
-use Rattle.common.specs.Refuse.{refuse, orElse}
 use Rattle.transcript.specs.declared.TranscriptModel.{TranscriptModel}
 use Rattle.transcript.specs.declared.Exon.{Exon}
 use Rattle.transcript.specs.Transcript.{Transcript, exonsOf, lent}
@@ -66,10 +65,6 @@ module _ (m : TranscriptModel) (xs : List Exon) (ps is ss es bs : List ℕ) wher
       let a = length-map xs (λ (x : Exon). x .«genomic_start») in
       let b = length-map xs (λ (x : Exon). x .«genomic_end») in
       rw (a, b, eq-eqb (length xs) (length xs) refl, records-again xs)
-
-  -- where the segments' lists are even, the exons are the list itself
-  pub records-exons : evenSegments ps is ss es ≡ true → lentRecords m xs ps is ss es bs .exons ≡ xs
-  records-exons e = rw e
 
   many-or-none : (b : Bool) → 512 < length xs → badCounts (record { model = m; exons = cond b xs []; segments = lentRecords m xs ps is ss es bs .segments; selenocysteine = bs }) ≡ true
   unfolding badCounts

@@ -9,7 +9,7 @@ use lib.ListN.{length}
 use Rattle.common.specs.Lists.{any}
 use Rattle.common.proofs.TestParts.{on-test, true-false}
 use Rattle.transcript.specs.Orient.{Interval}
-use Rattle.transcript.specs.Bases.{inside, insideAny, firstStart, endAfter, lastEnd}
+use Rattle.transcript.specs.Bases.{inside, insideAny, firstStart, endAfter}
 use Rattle.transcript.proofs.Orient.{inside-start, inside-end}
 
 -- each interval starts at or after the end of the one before it, the first at or after e, and none is empty
@@ -53,12 +53,6 @@ pub ascends-append : (xs ys : List Interval) (e : ℕ) → Ascends e (xs ++ ys) 
 unfolding endAfter
 ascends-append [] ys e h = (tt, h)
 ascends-append (x ∷ xs) ys e h = let r = ascends-append xs ys (x .end) (h .2) in ((h .0, h .1, r .0), r .1)
-
--- where the last of some intervals ends does not depend on the edge before them
-pub end-any : (xs : List Interval) (e : ℕ) → 0 < length xs → endAfter e xs ≡ lastEnd xs
-unfolding endAfter
-end-any [] e h = absurd (omega arith)
-end-any (x ∷ xs) e h = refl
 
 pub end-append : (xs ys : List Interval) (e : ℕ) → endAfter e (xs ++ ys) ≡ endAfter (endAfter e xs) ys
 unfolding endAfter

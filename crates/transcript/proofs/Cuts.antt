@@ -54,10 +54,6 @@ module _ (cds : Interval) (k : ℕ) (x : Interval) (xs : List Interval) where
   unfolding cuts
   cuts-some h = rw (lt-ltb (meet x cds .start) (meet x cds .end) h)
 
-  pub cuts-skip : meet x cds .end ≤ meet x cds .start → segmentsFrom cds k (x ∷ xs) ≡ segmentsFrom cds (suc k) xs
-  unfolding cuts
-  cuts-skip h = rw (le-ltb (meet x cds .start) (meet x cds .end) h)
-
 -- cuts of ascending exons ascend
 pub cuts-ascend : (cds : Interval) (k e : ℕ) (xs : List Interval) → Ascends e xs → Ascends e (segmentsFrom cds k xs)
 unfolding cuts
