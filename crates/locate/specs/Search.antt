@@ -9,15 +9,13 @@ use Rattle.common.specs.Lists.{any}
 use Rattle.transcript.specs.declared.Strand.{Strand}
 use Rattle.transcript.specs.Lent.{lentExons}
 use Rattle.locate.specs.declared.ExonOrIntron.{ExonOrIntron}
-use Rattle.locate.specs.declared.FoundBase.{FoundBase}
 use Rattle.locate.specs.declared.VariantLocation.{VariantLocation}
-use Rattle.footprint.specs.Ranges.{Ranges, sourceRanges}
+use Rattle.footprint.specs.Ranges.{Ranges}
 use Rattle.transcript.specs.Limits.{top, maxExons}
 use Rattle.transcript.specs.Transcript.{exonsOf}
 use Rattle.transcript.specs.Orient.{Interval, interval, Oriented}
 use Rattle.transcript.specs.Admission.{badExon, ascending}
 use Rattle.locate.specs.Find.{Found, inExon, inIntron, outside}
-use Rattle.locate.specs.Place.{isExonicSpliceRegion, exonic, locate}
 
 -- some exons, of good edges and in order
 pub record Ready (strand : Strand) (starts ends : List ℕ) : Type 0 where
@@ -51,11 +49,6 @@ pub record Holds (o : Oriented) (i start end p : ℕ) : Type 0 where
   pub end-is : end ≡ getD (o .exons) i (interval 0 0) .end
   pub from : start ≤ p
   pub to : p < end
-
--- the exon that holds a base, from which its place is read, or its place
-abbrev pub BaseFound : Oriented → ℕ → FoundBase → Type 0
-BaseFound o p (FoundBase.Exon i s e) = Holds o i s e p × (exonic o p i (isExonicSpliceRegion (length (o .exons)) i (interval s e) p) ≡ locate sourceRanges o p)
-BaseFound o p (FoundBase.Elsewhere place) = place ≡ locate sourceRanges o p
 
 -- outside a transcript, d bases upstream or downstream of it
 abbrev pub upstreamBy : Ranges → ℕ → VariantLocation

@@ -1,12 +1,15 @@
 // The place of one base without an index: lengths are summed up to the exon that holds it.
-use super::FoundBase;
+use super::ExonOrIntron;
 use super::VariantLocation;
 use super::exonic::exonic_place;
 use super::exonic::first_index;
 use super::exonic::is_exonic_splice_region;
-use super::found::find_base;
+use super::intronic::classify_intronic;
 use super::lengths::bases_before;
 use super::lengths::length_before;
+use super::place::downstream_place;
+use super::place::upstream_place;
+use super::search::find_exon_or_intron;
 use transcript::TranscriptModel;
 use transcript::limits::end_or_zero;
 use transcript::limits::start_or_zero;
@@ -93,19 +96,20 @@ pub(crate) fn place_alone(
     requires { ⌜ p ≤ top ⌝ }
     ensures { λ r. ⌜ r ≡ locate sourceRanges (oriented (lent model (now («exon_starts» .entry)) (now («exon_ends» .entry)) (now («seg_phases» .entry)) (now («seg_exons» .entry)) (now («seg_starts» .entry)) (now («seg_ends» .entry)) (now (selenocysteine .entry)))) p ⌝ }
 {
-    let found = find_base(
-        model,
-        exon_starts,
-        exon_ends,
-        seg_phases,
-        seg_exons,
-        seg_starts,
-        seg_ends,
-        selenocysteine,
-        p,
-    );
+    let strand = model.strand;
+    let s = model.tx_start;
+    let e = model.tx_end;
+    let first = start_of(strand, s, e);
+    let last = end_of(strand, s, e);
+    if p < first {
+        return upstream_place(first - p);
+    }
+    if last <= p {
+        return downstream_place(p - last + 1);
+    }
+    let found = find_exon_or_intron(exon_starts, exon_ends, strand, p);
     match found {
-        FoundBase::Exon(i, a, b) => exon_alone(
+        ExonOrIntron::Exon(i, a, b) => exon_alone(
             model,
             exon_starts,
             exon_ends,
@@ -119,6 +123,7 @@ pub(crate) fn place_alone(
             b,
             p,
         ),
-        FoundBase::Elsewhere(place) => place,
+        ExonOrIntron::Intron(i, a, b) => classify_intronic(0 < seg_starts.len(), i as u16, a, b, p),
+        ExonOrIntron::Outside => VariantLocation::Distal,
     }
 }

@@ -3,7 +3,6 @@
 mod alone;
 mod build;
 mod exonic;
-mod found;
 mod index;
 mod intronic;
 mod lengths;
@@ -93,12 +92,6 @@ pub enum ExonOrIntron {
     Exon(usize, u64, u64),
     Intron(usize, u64, u64),
     Outside,
-}
-
-// Where a base falls: exon i, [start, end), or a place that needs no lengths.
-pub(crate) enum FoundBase {
-    Exon(usize, u64, u64),
-    Elsewhere(VariantLocation),
 }
 
 // The two counters that are never read for each other: coding bases from 0 with the pad before them, and exonic bases from 1.

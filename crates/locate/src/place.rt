@@ -1,11 +1,12 @@
 // The place of a base in an admitted transcript, from its index.
-use super::FoundBase;
+use super::ExonOrIntron;
 use super::IndexScalars;
 use super::VariantLocation;
 use super::exonic::exonic_place;
 use super::exonic::is_exonic_splice_region;
-use super::found::find_base;
+use super::intronic::classify_intronic;
 use super::positions::offset_at;
+use super::search::find_exon_or_intron;
 use transcript::TranscriptModel;
 use transcript::limits::end_or_zero;
 use transcript::limits::start_or_zero;
@@ -22,7 +23,25 @@ ghost use Rattle.transcript.specs.Admission.{admission};
 ghost use Rattle.locate.specs.Index.{indexScalars};
 ghost use Rattle.locate.specs.Sums.{ExonSums};
 ghost use Rattle.locate.specs.Place.{isExonicSpliceRegion, exonic, locate};
-ghost use Rattle.locate.specs.Search.{Holds};
+ghost use Rattle.locate.specs.Search.{Holds, upstreamBy, downstreamBy};
+
+pub(crate) fn upstream_place(d: u64) -> VariantLocation
+    ensures { λ r. ⌜ r ≡ upstreamBy sourceRanges d ⌝ }
+{
+    if d <= 5000 {
+        return VariantLocation::Upstream { distance: d };
+    }
+    VariantLocation::Distal
+}
+
+pub(crate) fn downstream_place(d: u64) -> VariantLocation
+    ensures { λ r. ⌜ r ≡ downstreamBy sourceRanges d ⌝ }
+{
+    if d <= 5000 {
+        return VariantLocation::Downstream { distance: d };
+    }
+    VariantLocation::Distal
+}
 
 // The place of the base p of exon i, [start, end).
 pub(crate) fn exon_base(
@@ -92,19 +111,20 @@ pub fn place_of_base(
     requires { ⌜ p ≤ top ⌝ }
     ensures { λ r. ⌜ r ≡ locate sourceRanges (oriented (lent model (now («exon_starts» .entry)) (now («exon_ends» .entry)) (now («seg_phases» .entry)) (now («seg_exons» .entry)) (now («seg_starts» .entry)) (now («seg_ends» .entry)) (now (selenocysteine .entry)))) p ⌝ }
 {
-    let found = find_base(
-        model,
-        exon_starts,
-        exon_ends,
-        seg_phases,
-        seg_exons,
-        seg_starts,
-        seg_ends,
-        selenocysteine,
-        p,
-    );
+    let strand = model.strand;
+    let s = model.tx_start;
+    let e = model.tx_end;
+    let first = start_of(strand, s, e);
+    let last = end_of(strand, s, e);
+    if p < first {
+        return upstream_place(first - p);
+    }
+    if last <= p {
+        return downstream_place(p - last + 1);
+    }
+    let found = find_exon_or_intron(exon_starts, exon_ends, strand, p);
     match found {
-        FoundBase::Exon(i, a, b) => exon_base(
+        ExonOrIntron::Exon(i, a, b) => exon_base(
             model,
             exon_starts,
             exon_ends,
@@ -120,6 +140,7 @@ pub fn place_of_base(
             b,
             p,
         ),
-        FoundBase::Elsewhere(place) => place,
+        ExonOrIntron::Intron(i, a, b) => classify_intronic(0 < seg_starts.len(), i as u16, a, b, p),
+        ExonOrIntron::Outside => VariantLocation::Distal,
     }
 }
