@@ -2,11 +2,13 @@
 -- Assumes nothing.
 use Prim.Native.Nat.{ℕ, zero, suc, _+_, _-_, _≤_, _<_}
 use mathlib.Core.Path.{_≡_, refl, sym, ap}
-use mathlib.Core.Bool.{Bool, true, false, cond}
+use mathlib.Core.Bool.{Bool, true, false, cond, not}
 use mathlib.Core.List.{List, [], _∷_}
 use native.Mathlib.Omega.{arith}
 use lib.ListN.{getD}
-use borrow.Author.Tests.{eq-eqb, ne-eqb, lt-ltb, le-ltb}
+use lib.Dec.{eqb, ltb}
+use borrow.Author.Tests.{eq-eqb, ne-eqb, lt-ltb, le-ltb, ltb-true}
+use Rattle.common.proofs.TestParts.{on-test, and-true}
 use Rattle.transcript.specs.declared.Admission.{Admission}
 use Rattle.transcript.specs.declared.Admission.the-variants.{Admitted}
 use Rattle.transcript.specs.Admission.{admissionOf}
@@ -14,19 +16,22 @@ use Rattle.deck.specs.declared.DeckAnswer.the-variants.{Accepted, Refuse
 use Rattle.deck.specs.declared.DeckTable.{DeckTable}
 use Rattle.deck.specs.declared.rows.Rows.{Rows}
 use Rattle.deck.specs.Records.{lowest}
-use Rattle.deck.specs.Table.{isKind, runEnd, boundsEnd, rowsAt, rowsFrom, transcriptIn, admitRows}
+use Rattle.deck.specs.Table.{isKind, runEnd, boundsEnd, rowsAt, InOrder, rowsFrom, transcriptIn, admitRows}
 
-lowest-from : (f : ℕ → Bool) (n i : ℕ) → i ≤ lowest f n i
+lowest-within : (f : ℕ → Bool) (n i : ℕ) → (i ≤ lowest f n i) × (lowest f n i ≤ n + i)
 unfolding lowest
-lowest-from f zero i = omega arith
-lowest-from f (suc n) i = here (f i) (let h = lowest-from f n (suc i) in omega arith)
+lowest-within f zero i = (omega arith, omega arith)
+lowest-within f (suc n) i = here (f i) (lowest-within f n (suc i))
   where
-    here : (b : Bool) → i ≤ lowest f n (suc i) → i ≤ cond b i (lowest f n (suc i))
-    here true h = omega arith
-    here false h = h
+    here : (b : Bool) {j : ℕ} → (suc i ≤ j) × (j ≤ n + suc i) → (i ≤ cond b i j) × (cond b i j ≤ suc n + i)
+    here true h = (omega arith, omega arith)
+    here false h = let a = h .0 in let b = h .1 in (omega arith, omega arith)
 
 run-from : (kinds : List ℕ) (kind i : ℕ) → i ≤ runEnd kinds kind i
-run-from kinds kind i = lowest-from _ (4096 - i) i
+run-from kinds kind i = lowest-within _ (4096 - i) i .0
+
+run-low : (kinds : List ℕ) (kind i : ℕ) → i ≤ 4096 → runEnd kinds kind i ≤ 4096
+run-low kinds kind i h = let b = lowest-within (λ j. not (eqb (getD kinds j 0) kind)) (4096 - i) i .1 in omega arith
 
 bounds-from : (kinds : List ℕ) (i : ℕ) → i ≤ boundsEnd kinds i
 bounds-from kinds i = here (isKind kinds 2 i)
@@ -34,6 +39,13 @@ bounds-from kinds i = here (isKind kinds 2 i)
     here : (b : Bool) → i ≤ cond b (i + 1) i
     here true = omega arith
     here false = omega arith
+
+-- a row at which a record of a kind stands lies in the table
+pub row-inside : (kinds : List ℕ) (kind k : ℕ) → isKind kinds kind k ≡ true → k < 4096
+row-inside kinds kind k h = ltb-true k 4096 (and-true (ltb k 4096) (eqb (getD kinds k 0) kind) h .0)
+
+bounds-low : (kinds : List ℕ) (i : ℕ) → i ≤ 4096 → boundsEnd kinds i ≤ 4096
+bounds-low kinds i h = on-test (isKind kinds 2 i) (λ e. (let l = row-inside kinds 2 i e in rw e (omega arith))) (λ e. rw e h)
 
 -- the rows of a transcript end behind it
 pub rows-past : (kinds : List ℕ) (k : ℕ) → k < rowsAt kinds k .bases
@@ -47,6 +59,17 @@ rows-past kinds k =
     let j = run-from kinds 4 b in
     let l = run-from kinds 5 g in
     omega arith
+
+-- and stand in their order, inside the table
+pub rows-in-order : (kinds : List ℕ) (k : ℕ) → k < 4096 → InOrder k (rowsAt kinds k)
+unfolding rowsAt
+rows-in-order kinds k l =
+    let x = runEnd kinds 3 (k + 1) in
+    let b = boundsEnd kinds x in
+    let g = runEnd kinds 4 b in
+    let h = run-from kinds 3 (k + 1) in
+    let bl = bounds-low kinds x (run-low kinds 3 (k + 1) (omega arith)) in
+    (omega arith, bounds-from kinds x, run-from kinds 4 b, run-from kinds 5 g, run-low kinds 5 g (run-low kinds 4 b bl))
 
 -- no more than 4096 transcripts stand in a table
 pub rows-fuel : (kinds : List ℕ) (n m k : ℕ) → 4096 ≤ n + k → 4096 ≤ m + k → rowsFrom n kinds k ≡ rowsFrom m kinds k

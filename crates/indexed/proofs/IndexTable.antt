@@ -22,7 +22,7 @@ use Rattle.indexed.specs.TableIndex.{isAdmitted, rowIndex, rowSums, inde
 use Rattle.indexed.proofs.IndexSums.{KeptBelow, kept-row, sums-kept, first-kept}
 use Rattle.indexed.proofs.SummedRows.{summed-here}
 use Rattle.indexed.proofs.IndexRows.{exons-end, segments-end, cds-row-is, cds-end}
-use Rattle.indexed.proofs.RowsInOrder.{rows-in-order}
+use Rattle.deck.proofs.RowOrder.{rows-in-order}
 
 -- the columns at row k
 abbrev pub rowsIn : TableIndex → ℕ → Rows

@@ -1,7 +1,7 @@
 -- The index of a transcript whose lists are lent apart, from what is computed of the lists.
 -- Assumes nothing.
 use Prim.Native.Nat.{ℕ, _<_}
-use mathlib.Core.Path.{_≡_, refl, sym, _∙_, ap}
+use mathlib.Core.Path.{_≡_, refl, sym, _∙_}
 use mathlib.Core.Bool.{Bool, true, false}
 use mathlib.Core.List.{List, map}
 use native.Mathlib.Omega.{arith}
@@ -11,14 +11,13 @@ use Rattle.common.specs.Lists.{any}
 use Rattle.common.specs.Stored.{stored}
 use Rattle.transcript.specs.declared.TranscriptModel.{TranscriptModel}
 use Rattle.transcript.specs.Transcript.{Transcript, exonsOf, lent}
-use Rattle.transcript.specs.Orient.{oriented}
-use Rattle.transcript.specs.Bases.{size, gaps}
+use Rattle.transcript.specs.Bases.{gaps}
 use Rattle.transcript.specs.Admission.{admission}
 use Rattle.transcript.specs.Lent.{exonSize, padOfPhases, lentExons}
 use Rattle.footprint.specs.ShortIntron.{isFrameshiftGap}
 use Rattle.locate.specs.Index.{cumulative}
-use Rattle.locate.proofs.LentTranscript.{ad, exons-are, segments-are, coding-is, pad-is}
-use Rattle.locate.proofs.LentIndex.{sizes-turned}
+use Rattle.locate.proofs.LentTranscript.{exons-are, coding-is, pad-is}
+use Rattle.locate.proofs.LentIndex.{exon-sizes, segment-sizes}
 use Rattle.indexed.specs.declared.row.RowIndex.{RowIndex}
 use Rattle.indexed.specs.TableIndex.{rowIndex, rowSums}
 
@@ -30,12 +29,6 @@ module _ (m : TranscriptModel) (ss es ps is gs ge bs : List ℕ) (h : admission 
   abbrev t : Transcript
   t = lent m ss es ps is gs ge bs
 
-  exon-sizes : map exonSize (exonsOf ss es) ≡ map size (oriented t .exons)
-  exon-sizes = sym (ap (map size) (exons-are m ss es ps is gs ge bs h) ∙ sizes-turned (m .strand) (exonsOf ss es) (ad m ss es ps is gs ge bs h .edges))
-
-  segment-sizes : map exonSize (exonsOf gs ge) ≡ map size (oriented t .segments)
-  segment-sizes = sym (ap (map size) (segments-are m ss es ps is gs ge bs h) ∙ sizes-turned (m .strand) (exonsOf gs ge) (ad m ss es ps is gs ge bs h .segment-edges))
-
   admitted-row : {s : Bool} → s ≡ any isFrameshiftGap (gaps (lentExons (m .strand) ss es)) → _≡_ {A = RowIndex} (record { admitted = true; short = s }) (rowIndex t)
   admitted-row e = rw (eq-eqb (admission t) 0 h, exons-are m ss es ps is gs ge bs h, e)
 
@@ -43,11 +36,11 @@ module _ (m : TranscriptModel) (ss es ps is gs ge bs : List ℕ) (h : admission 
     pub row-alone : length gs ≡ 0 → (_≡_ {A = RowIndex} (record { admitted = true; short = s }) (rowIndex t)) × (mid ≡ rowSums t row c l)
     row-alone z =
         let f = sym (coding-is m ss es ps is gs ge bs h) ∙ le-ltb 0 (length gs) (omega arith) in
-        (admitted-row es′, em ∙ rw (eq-eqb (admission t) 0 h, f, exon-sizes))
+        (admitted-row es′, em ∙ rw (eq-eqb (admission t) 0 h, f, exon-sizes m ss es ps is gs ge bs h))
 
     pub row-coding : (pad : ℕ) (after : List ℕ) → pad ≡ padOfPhases ps → after ≡ stored mid c (cumulative pad (map exonSize (exonsOf gs ge))) → 0 < length gs
         → (_≡_ {A = RowIndex} (record { admitted = true; short = s }) (rowIndex t)) × (after ≡ rowSums t row c l)
     row-coding pad after ep ea g =
         let f = sym (coding-is m ss es ps is gs ge bs h) ∙ lt-ltb 0 (length gs) g in
         let p = ep ∙ sym (pad-is m ss es ps is gs ge bs h) in
-        (admitted-row es′, ea ∙ rw (eq-eqb (admission t) 0 h, f, em, p, exon-sizes, segment-sizes))
+        (admitted-row es′, ea ∙ rw (eq-eqb (admission t) 0 h, f, em, p, exon-sizes m ss es ps is gs ge bs h, segment-sizes m ss es ps is gs ge bs h))

@@ -1,7 +1,6 @@
 pub mod IndexSums
 pub mod SummedRows
 pub mod IndexRows
-pub mod RowsInOrder
 pub mod IndexTable
 pub mod WholeIndex
 pub mod IndexedTranscript

@@ -1,21 +1,20 @@
 -- The index of a table, from its first row to its last.
 -- Assumes nothing.
-use Prim.Native.Nat.{ℕ, zero, suc, _-_}
-use mathlib.Core.Path.{_≡_, refl, sym, _∙_}
+use Prim.Native.Nat.{ℕ, zero, suc}
+use mathlib.Core.Path.{_≡_, sym, _∙_}
 use mathlib.Core.Bool.{Bool, true, false}
-use mathlib.Core.List.{List, []}
+use mathlib.Core.List.{List}
 use lib.ListN.{getD, set, replicate, length-replicate}
 use lib.Dec.{eqb, ltb}
-use borrow.Author.Tests.{eqb-true}
+use borrow.Author.Tests.{eqb-true, eq-eqb, lt-ltb}
 use Rattle.common.proofs.TestParts.{on-test, and-true, true-false}
 use Rattle.deck.specs.declared.DeckTable.{DeckTable}
 use Rattle.deck.specs.declared.rows.Rows.{Rows}
 use Rattle.deck.specs.Table.{isKind, rowsAt, rowsFrom, transcriptIn}
-use Rattle.deck.proofs.RowOrder.{rowsOn, rows-here}
+use Rattle.deck.proofs.RowOrder.{rowsOn, rows-here, rows-none, row-inside}
 use Rattle.indexed.specs.declared.TableIndex.{TableIndex}
 use Rattle.indexed.specs.declared.row.RowIndex.{RowIndex}
 use Rattle.indexed.specs.TableIndex.{rowIndex, rowSums, indexRow, indexRows, emptyIndex, tableIndex}
-use Rattle.indexed.proofs.RowsInOrder.{inside-table}
 use Rattle.indexed.proofs.IndexTable.{rowsIn, IndexedAt, Indexing, indexing-more}
 
 -- the rows left begin with one at which a transcript stands
@@ -33,16 +32,11 @@ pub index-on : (t : DeckTable) (k : ℕ) (x : TableIndex) {s : Bool} {r : Rows} 
 unfolding indexRow
 index-on t k x e h er ei ea =
     let q = and-true (ltb k 4096) (eqb (getD (t .kinds) k 0) 1) (sym e ∙ h) in
-    rw (rows-here (t .kinds) k (inside-table (t .kinds) 1 k e h) (eqb-true (getD (t .kinds) k 0) 1 (q .1)), ea, ei, er)
+    rw (rows-here (t .kinds) k (row-inside (t .kinds) 1 k (sym e ∙ h)) (eqb-true (getD (t .kinds) k 0) 1 (q .1)), ea, ei, er)
 
 -- or none stands there
-no-rows : (n : ℕ) (kinds : List ℕ) (k : ℕ) → isKind kinds 1 k ≡ false → rowsFrom n kinds k ≡ []
-unfolding rowsFrom
-no-rows zero kinds k h = refl
-no-rows (suc n) kinds k h = rw h
-
 pub index-end : (t : DeckTable) (k : ℕ) (x : TableIndex) {s : Bool} → s ≡ isKind (t .kinds) 1 k → s ≡ false → x ≡ indexRows t (rowsOn (t .kinds) k) x
-index-end t k x e h = rw (no-rows (4096 - k) (t .kinds) k (sym e ∙ h))
+index-end t k x e h = rw (rows-none (t .kinds) k (λ l z. true-false (rw (lt-ltb k 4096 l, eq-eqb (getD (t .kinds) k 0) 1 z) at (sym e ∙ h))))
 
 -- nothing is marked at first
 none-marked : (n k : ℕ) → getD (replicate n false) k false ≡ true → ⊥
@@ -72,7 +66,7 @@ rows-indexed : (t : DeckTable) (n k : ℕ) (x : TableIndex) → Indexing t x k �
 unfolding rowsFrom
 rows-indexed t zero k x w = w .at
 rows-indexed t (suc n) k x w = on-test (isKind (t .kinds) 1 k)
-    (λ e. rw e (rows-indexed t n (rowsAt (t .kinds) k .bases) (indexRow t k x) (indexing-more t x k w (inside-table (t .kinds) 1 k refl e))))
+    (λ e. rw e (rows-indexed t n (rowsAt (t .kinds) k .bases) (indexRow t k x) (indexing-more t x k w (row-inside (t .kinds) 1 k e))))
     (λ e. rw e (w .at))
 
 pub table-indexed : (t : DeckTable) → TableIndexed t (tableIndex t)

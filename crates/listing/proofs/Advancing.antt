@@ -5,14 +5,14 @@ use mathlib.Core.Path.{_≡_, refl}
 use mathlib.Core.Bool.{Bool, true, false, cond, _&&_}
 use mathlib.Core.List.{List}
 use native.Mathlib.Omega.{arith}
-use lib.ListN.{length, getD, drop}
-use lib.Dec.{ltb, leb, eqb}
+use lib.ListN.{length, drop}
+use lib.Dec.{ltb, leb}
 use borrow.Author.Tests.{ltb-true, leb-true}
 use Rattle.consequence.specs.declared.Call.{Call}
 use Rattle.consequence.specs.Window.{Window}
 use Rattle.deck.specs.declared.DeckTable.{DeckTable}
 use Rattle.deck.specs.Table.{isKind, rowsAt}
-use Rattle.deck.proofs.RowOrder.{rows-past}
+use Rattle.deck.proofs.RowOrder.{row-inside, rows-past}
 use Rattle.lines.specs.declared.Written.{Written}
 use Rattle.lines.specs.Line.{refusalLine}
 use Rattle.listing.specs.declared.ParsedCall.{ParsedCall}
@@ -24,14 +24,6 @@ use Rattle.listing.specs.Calls.{lineLength, parseCall}
 use Rattle.listing.specs.Steps.{Next, line, ended, behindLine, behindTranscript, rowLine, nextCalled, lineAt, askedParsed, askedAt, nextAsked, nextLine, listed, listedAs, listedTo, left, Advances}
 use Rattle.listing.proofs.Lines.{line-inside}
 
--- a row at which a transcript stands is one of the table
-pub row-inside : (kinds : List ℕ) (k : ℕ) → isKind kinds 1 k ≡ true → k < 4096
-row-inside kinds k h = here (ltb k 4096) (eqb (getD kinds k 0) 1) refl h
-  where
-    here : (b s : Bool) → ltb k 4096 ≡ b → (b && s) ≡ true → k < 4096
-    here true s e g = ltb-true k 4096 e
-    here false s e g = absurd (let z : _≡_ {A = ℕ} 0 1 = cc in omega arith)
-
 module _ (calls : List ℕ) (c : Cursor) where
   line-less : c .at < length calls → left calls (behindLine calls c) < left calls c
   line-less h = let i = line-inside calls (c .at) (c .at + lineLength (drop (c .at) calls)) h refl in omega arith
@@ -40,7 +32,7 @@ module _ (calls : List ℕ) (c : Cursor) where
   transcript-less kinds h k = here (isKind kinds 1 (rowsAt kinds (c .row) .bases))
     where
       here : (b : Bool) → left calls (cond b (record { at = c .at; number = c .number; row = rowsAt kinds (c .row) .bases }) (behindLine calls c)) < left calls c
-      here true = let p = rows-past kinds (c .row) in let i = row-inside kinds (c .row) k in omega arith
+      here true = let p = rows-past kinds (c .row) in let i = row-inside kinds 1 (c .row) k in omega arith
       here false = line-less h
 
   module _ (buffer : List ℕ) where

@@ -67,10 +67,10 @@ module _ (m : TranscriptModel) (ss es ps is gs ge bs : List ℕ) (h : admission 
   abbrev o : Oriented
   o = oriented (lent m ss es ps is gs ge bs)
 
-  exon-sizes : map exonSize (exonsOf ss es) ≡ map size (o .exons)
+  pub exon-sizes : map exonSize (exonsOf ss es) ≡ map size (o .exons)
   exon-sizes = sym (ap (map size) (exons-are m ss es ps is gs ge bs h) ∙ sizes-turned (m .strand) (exonsOf ss es) (ad m ss es ps is gs ge bs h .edges))
 
-  segment-sizes : map exonSize (exonsOf gs ge) ≡ map size (o .segments)
+  pub segment-sizes : map exonSize (exonsOf gs ge) ≡ map size (o .segments)
   segment-sizes = sym (ap (map size) (segments-are m ss es ps is gs ge bs h) ∙ sizes-turned (m .strand) (exonsOf gs ge) (ad m ss es ps is gs ge bs h .segment-edges))
 
   pub exon-array : filled 513 (cumulative 0 (map exonSize (exonsOf ss es))) ≡ locateIndex o .«cumulative_exons»

@@ -5,10 +5,9 @@ use native.Mathlib.Omega.{arith}
 use denote.Ref.{now}
 use lib.ListN.{length, length-replicate}
 use Rattle.deck.specs.declared.DeckTable.{DeckTable}
-use Rattle.deck.proofs.RowOrder.{rowsOn}
+use Rattle.deck.proofs.RowOrder.{rowsOn, row-inside}
 use Rattle.indexed.specs.TableIndex.{indexRows, emptyIndex, tableIndex}
 use Prim.Native.Nat.{ℕ, _-_, _<_}
-use Rattle.indexed.proofs.RowsInOrder.{inside-table}
 use Rattle.indexed.proofs.WholeIndex.{index-on, index-end}
 use Rattle.indexed.proofs.index.index_table.Statement.{statement}
 use Rattle.indexed.proofs.index.index_table.Tie as tie
@@ -34,7 +33,7 @@ table s = record {
 
 -- a row at which a transcript stands lies in the table
 low : (c : tie.Then1 Inv-loop μ-loop) → c .before .before .loop .row < 4096
-low c = inside-table (now (c .before .before .before .args .kinds)) 1 (c .before .before .loop .row) (c .before .is-transcript .ensures) (c .if1 .taken)
+low c = row-inside (now (c .before .before .before .args .kinds)) 1 (c .before .before .loop .row) (sym (c .before .is-transcript .ensures) ∙ c .if1 .taken)
 
 loop-holds : tie.Need-loop-holds Inv-loop μ-loop
 unfolding emptyIndex

@@ -1,6 +1,6 @@
 -- `indexed::step::next_called_indexed` meets its contract.
 -- Assumes nothing.
-use Rattle.listing.proofs.Advancing.{row-inside}
+use Rattle.deck.proofs.RowOrder.{row-inside}
 use Rattle.listing.proofs.Answering.{called-none, called-line, line-put, nothing-put}
 use Rattle.indexed.specs.declared.TableIndex.{TableIndex}
 use Rattle.lines.specs.Line.{calledLine}
@@ -48,7 +48,7 @@ low : (c : tie.Else1) → c .before .before .before .before .args .cursor .row <
 low c =
     let a = c .before .before .before .before .args in
     let i = c .before .is-transcript in
-    row-inside (now (a .kinds)) (a .cursor .row) (sym (i .ensures) ∙ not-false (i .result) (c .if1 .left))
+    row-inside (now (a .kinds)) 1 (a .cursor .row) (sym (i .ensures) ∙ not-false (i .result) (c .if1 .left))
 
 -- and it is indexed
 at : (c : tie.After-rows-in) → let s = c .before .before .before .before .before .before .before in

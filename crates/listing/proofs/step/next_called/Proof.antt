@@ -8,7 +8,7 @@ use Rattle.consequence.specs.Window.{Window}
 use Rattle.deck.specs.declared.DeckTable.{DeckTable}
 use Rattle.lines.specs.Line.{calledLine}
 use Rattle.listing.proofs.Answering.{called-none, called-line, line-put, nothing-put}
-use Rattle.listing.proofs.Advancing.{row-inside}
+use Rattle.deck.proofs.RowOrder.{row-inside}
 use borrow.Author.Needs.{needs}
 use Rattle.listing.proofs.step.next_called.Statement.{statement}
 use Rattle.listing.proofs.step.next_called.Tie as tie
@@ -40,7 +40,7 @@ rows-at-requires : tie.Need-rows-at-requires
 rows-at-requires c κs =
     let a = c .before .before .before .before .args in
     let i = c .before .is-transcript in
-    row-inside (now (a .kinds)) (a .cursor .row) (sym (i .ensures) ∙ not-false (i .result) (c .if1 .left))
+    row-inside (now (a .kinds)) 1 (a .cursor .row) (sym (i .ensures) ∙ not-false (i .result) (c .if1 .left))
 
 call-at-requires : tie.Need-call-at-requires
 call-at-requires c κs = search needs
