@@ -4,6 +4,8 @@ use mathlib.Core.Bool.{Bool, cond, _&&_}
 use mathlib.Core.List.{List}
 use lib.ListN.{length, getD}
 use lib.Dec.{leb, ltb}
+use denote.Ref.{now}
+use Rattle.common.specs.Slices.{Slice, Passed}
 use Rattle.codon.specs.Bases.{complementOf}
 use Rattle.transcript.specs.declared.Strand.{Strand}
 use Rattle.transcript.specs.declared.Strand.the-variants.{Plus, Minus}
@@ -18,6 +20,13 @@ pub record Window : Type 0 where
 -- lent bytes from a first coordinate on; the chromosome takes no part in reading
 abbrev pub windowFrom : ℕ → List ℕ → Window
 windowFrom first bytes = record { chromosome = 0; first = first; bytes = bytes }
+
+-- the window that is given, as a `requires` names it, and that was given, as an `ensures` does
+abbrev pub windowGiven : ℕ → ℕ → Slice → Window
+windowGiven chromosome first bytes = record { chromosome = chromosome; first = first; bytes = now bytes }
+
+abbrev pub windowWasGiven : ℕ → ℕ → Passed → Window
+windowWasGiven chromosome first bytes = windowGiven chromosome first (bytes .entry)
 
 -- the coordinate lies in the window
 abbrev pub inWindow : Window → ℕ → Bool

@@ -10,7 +10,8 @@ use locate::place::place_of_base;
 use transcript::TranscriptModel;
 use transcript::question::base_of;
 ghost use mathlib.Core.Path.{_≡_};
-ghost use Rattle.transcript.specs.Transcript.{lent};
+ghost use Rattle.transcript.specs.Transcript.{Transcript, given};
+ghost use Rattle.consequence.specs.Window.{Window, windowGiven};
 ghost use Rattle.footprint.specs.Ranges.{sourceRanges};
 ghost use Rattle.consequence.specs.Call.{annotateSnv};
 ghost use Rattle.consequence.specs.Prepared.{Prepared};
@@ -34,8 +35,13 @@ pub fn annotate_admitted(
     cumulative_cds: &[u32],
     selenocysteine_codons: &[u32; 64],
 ) -> Called
-    requires { ⌜ Prepared (lent model (now «exon_starts») (now «exon_ends») (now «seg_phases») (now «seg_exons») (now «seg_starts») (now «seg_ends») (now selenocysteine)) scalars (now «cumulative_exons») (now «cumulative_cds») (now «selenocysteine_codons») ⌝ }
-    ensures { λ r. ⌜ r ≡ annotateSnv sourceRanges (lent model (now («exon_starts» .entry)) (now («exon_ends» .entry)) (now («seg_phases» .entry)) (now («seg_exons» .entry)) (now («seg_starts» .entry)) (now («seg_ends» .entry)) (now (selenocysteine .entry))) (record { chromosome = «window_chromosome»; first = «window_first»; bytes = now (window .entry) }) call ⌝ }
+    ghost { Transcript × Window }
+    requires { λ g.
+        let t = given model «exon_starts» «exon_ends» «seg_phases» «seg_exons» «seg_starts» «seg_ends» selenocysteine in
+        let w = windowGiven «window_chromosome» «window_first» window in
+        ⌜ g ≡ (t, w) ⌝ }
+    requires { λ (t, w). ⌜ Prepared t scalars (now «cumulative_exons») (now «cumulative_cds») (now «selenocysteine_codons») ⌝ }
+    ensures { λ (t, w) r. ⌜ r ≡ annotateSnv sourceRanges t w call ⌝ }
 {
     let refusal = opening_refusal(
         model.chromosome,

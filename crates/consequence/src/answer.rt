@@ -47,7 +47,9 @@ pub(crate) fn intron_result(
     mark: bool,
 ) -> ConsequenceResult
     requires { ⌜ (i < 65535) × (0 < exons) ⌝ }
-    ensures { λ r. ⌜ ((t : Oriented) → length (t .exons) ≡ exons → r ≡ intronResult t place i (withTermIf mark (only term) SpliceRegionVariant)) ⌝ }
+    ensures { λ r. ⌜ ((t : Oriented)
+        → length (t .exons) ≡ exons
+        → r ≡ intronResult t place i (withTermIf mark (only term) SpliceRegionVariant)) ⌝ }
 {
     let terms = TermSet::of(term);
     let consequences = terms.with_if(mark, Consequence::SpliceRegionVariant);
@@ -103,7 +105,10 @@ pub(crate) fn exon_result(
     c: CodonColumns,
 ) -> ConsequenceResult
     requires { ⌜ i < 65535 ⌝ }
-    ensures { λ r. ⌜ ((t : Oriented) (p : ℕ) → length (t .exons) ≡ exons → cdnaPosition t p ≡ cdna .0 → r ≡ exonResult t p place i mark (columnsOf c)) ⌝ }
+    ensures { λ r. ⌜ ((t : Oriented) (p : ℕ)
+        → length (t .exons) ≡ exons
+        → cdnaPosition t p ≡ cdna .0
+        → r ≡ exonResult t p place i mark (columnsOf c)) ⌝ }
 {
     let cds_position = c.position;
     let protein_start = c.number;

@@ -22,8 +22,9 @@ pub(crate) fn compute_cdna_position_exonic(
 ) -> CdnaPosition
     requires { ⌜ Ready strand (now starts) (now ends) ⌝ }
     requires { ⌜ Sums (lentExons strand (now starts) (now ends)) (now sums) × (firstSum (now sums) ≡ 0) ⌝ }
-    requires { ⌜ (i < length (now starts)) × (getD (lentExons strand (now starts) (now ends)) i (interval 0 0) .start ≤ p) × (p < getD (lentExons strand (now starts) (now ends)) i (interval 0 0) .end) ⌝ }
-    ensures { λ r. ⌜ r .0 ≡ basesIn (lentExons strand (now (starts .entry)) (now (ends .entry))) 0 p + 1 ⌝ }
+    requires { let x = getD (lentExons strand (now starts) (now ends)) i (interval 0 0) in
+        ⌜ (i < length (now starts)) × (x .start ≤ p) × (p < x .end) ⌝ }
+    ensures { λ r. ⌜ r .0 ≡ basesIn (lentExons strand (now starts.entry) (now ends.entry)) 0 p + 1 ⌝ }
 {
     let s = starts[i];
     let e = ends[i];

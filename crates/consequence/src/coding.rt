@@ -53,7 +53,16 @@ pub(crate) fn annotate_cds_snv(
     requires { ⌜ (scalars .«segment_count» ≡ length (now starts)) × (scalars .«total_cds_length» ≡ getD (now sums) (length (now starts)) 0) × (offset < scalars .«total_cds_length») ⌝ }
     requires { ⌜ (scalars .«selenocysteine_count» ≤ 64) × (scalars .«selenocysteine_count» ≤ length (now codons)) ⌝ }
     requires { ⌜ (i < 65535) × (offset ≤ 2 + top) × (scalars .«cds_start_pad» ≤ offset) × (scalars .«utr5_exonic_len» + (offset - scalars .«cds_start_pad») ≤ top) ⌝ }
-    ensures { λ r. ⌜ ((t : Oriented) (p : ℕ) → length (t .exons) ≡ exons → scalars ≡ indexScalars t → t .startComplete ≡ «start_complete» → t .segments ≡ lentExons strand (now (starts .entry)) (now (ends .entry)) → now (codons .entry) ≡ filled 64 (selenocysteineCodons t) → cdnaPosition t p ≡ scalars .«utr5_exonic_len» + (offset - scalars .«cds_start_pad») + 1 → r ≡ codingCalled t p (codingByte strand «alt_base») place i offset number position mark (fetchCodon t (codingBase strand (windowFrom first (now (bytes .entry)))) offset)) ⌝ }
+    ensures { λ r.
+        let base = codingBase strand (windowFrom first (now bytes.entry)) in
+        ⌜ ((t : Oriented) (p : ℕ)
+        → length (t .exons) ≡ exons
+        → scalars ≡ indexScalars t
+        → t .startComplete ≡ «start_complete»
+        → t .segments ≡ lentExons strand (now starts.entry) (now ends.entry)
+        → now codons.entry ≡ filled 64 (selenocysteineCodons t)
+        → cdnaPosition t p ≡ scalars .«utr5_exonic_len» + (offset - scalars .«cds_start_pad») + 1
+        → r ≡ codingCalled t p (codingByte strand «alt_base») place i offset number position mark (fetchCodon t base offset)) ⌝ }
 {
     let codon = fetch_ref_codon(scalars, strand, starts, ends, sums, first, bytes, offset);
     let FetchedCodon::Bases(c) = codon else {

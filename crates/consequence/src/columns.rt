@@ -75,7 +75,10 @@ fn whole_codon(
     altered_letter: u8,
 ) -> CodonColumns
     requires { ⌜ offset ≤ 2 + top ⌝ }
-    ensures { λ r. ⌜ ((t : Oriented) → start ≡ isStartCodon t number → padded ≡ isPaddedCodon t number → columnsOf r ≡ wholeCodon t offset number c altered k «reference_letter» «altered_letter») ⌝ }
+    ensures { λ r. ⌜ ((t : Oriented)
+        → start ≡ isStartCodon t number
+        → padded ≡ isPaddedCodon t number
+        → columnsOf r ≡ wholeCodon t offset number c altered k «reference_letter» «altered_letter») ⌝ }
 {
     let letters = shown_letters(padded, reference_letter, altered_letter);
     let terms = TermSet::of(coding_term(start, reference_letter, altered_letter));
@@ -114,7 +117,12 @@ pub(crate) fn read_codon(
     b: u8,
 ) -> CodonColumns
     requires { ⌜ offset ≤ 2 + top ⌝ }
-    ensures { λ r. ⌜ ((t : Oriented) → start ≡ isStartCodon t number → padded ≡ isPaddedCodon t number → incomplete ≡ isIncompleteTerminalCodon t offset → selenocysteine ≡ holdsSelenocysteine t number → columnsOf r ≡ readCodon t offset number c (buildAltCodon c k b) k) ⌝ }
+    ensures { λ r. ⌜ ((t : Oriented)
+        → start ≡ isStartCodon t number
+        → padded ≡ isPaddedCodon t number
+        → incomplete ≡ isIncompleteTerminalCodon t offset
+        → selenocysteine ≡ holdsSelenocysteine t number
+        → columnsOf r ≡ readCodon t offset number c (buildAltCodon c k b) k) ⌝ }
 {
     let altered = build_alt_codon(c, k, b);
     if incomplete {

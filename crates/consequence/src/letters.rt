@@ -52,7 +52,9 @@ fn is_unknown(reference: u8, altered: u8) -> bool
 
 // The letters shown: none where one is unknown, but X for a padded codon.
 pub(crate) fn shown_letters(padded: bool, reference: u8, altered: u8) -> AminoAcids
-    ensures { λ r. ⌜ ((t : Oriented) (number : ℕ) → padded ≡ isPaddedCodon t number → r ≡ shownLetters t number reference altered) ⌝ }
+    ensures { λ r. ⌜ ((t : Oriented) (number : ℕ)
+        → padded ≡ isPaddedCodon t number
+        → r ≡ shownLetters t number reference altered) ⌝ }
 {
     if is_unknown(reference, altered) {
         if padded {

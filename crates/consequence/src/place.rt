@@ -12,7 +12,7 @@ use locate::IndexScalars;
 use locate::VariantLocation;
 use transcript::TranscriptModel;
 ghost use mathlib.Core.Path.{_≡_};
-ghost use Rattle.transcript.specs.Transcript.{lent};
+ghost use Rattle.transcript.specs.Transcript.{Transcript, given};
 ghost use Rattle.transcript.specs.Orient.{oriented};
 ghost use Rattle.footprint.specs.Ranges.{sourceRanges};
 ghost use Rattle.locate.specs.Place.{locate};
@@ -41,9 +41,13 @@ pub(crate) fn annotate_place(
     place: VariantLocation,
     p: u64,
 ) -> Called
-    requires { ⌜ Prepared (lent model (now «exon_starts») (now «exon_ends») (now «seg_phases») (now «seg_exons») (now «seg_starts») (now «seg_ends») (now selenocysteine)) scalars (now «cumulative_exons») (now «cumulative_cds») (now «selenocysteine_codons») ⌝ }
-    requires { ⌜ place ≡ locate sourceRanges (oriented (lent model (now «exon_starts») (now «exon_ends») (now «seg_phases») (now «seg_exons») (now «seg_starts») (now «seg_ends») (now selenocysteine))) p ⌝ }
-    ensures { λ r. ⌜ r ≡ placeCalled (oriented (lent model (now («exon_starts» .entry)) (now («exon_ends» .entry)) (now («seg_phases» .entry)) (now («seg_exons» .entry)) (now («seg_starts» .entry)) (now («seg_ends» .entry)) (now (selenocysteine .entry)))) p (codingByte (model .strand) «alt_base») (callCodon (lent model (now («exon_starts» .entry)) (now («exon_ends» .entry)) (now («seg_phases» .entry)) (now («seg_exons» .entry)) (now («seg_starts» .entry)) (now («seg_ends» .entry)) (now (selenocysteine .entry))) (windowFrom first (now (bytes .entry)))) place ⌝ }
+    ghost { Transcript }
+    requires { λ t. ⌜ t ≡ given model «exon_starts» «exon_ends» «seg_phases» «seg_exons» «seg_starts» «seg_ends» selenocysteine ⌝ }
+    requires { λ t. ⌜ Prepared t scalars (now «cumulative_exons») (now «cumulative_cds») (now «selenocysteine_codons») ⌝ }
+    requires { λ t. ⌜ place ≡ locate sourceRanges (oriented t) p ⌝ }
+    ensures { λ t r.
+        let w = windowFrom first (now bytes.entry) in
+        ⌜ r ≡ placeCalled (oriented t) p (codingByte (model .strand) «alt_base») (callCodon t w) place ⌝ }
 {
     let exons = model.exon_count;
     let strand = model.strand;

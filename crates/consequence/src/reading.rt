@@ -44,7 +44,12 @@ fn cds_base(
 ) -> FetchedBase
     requires { ⌜ Segments strand (now starts) (now ends) (now sums) pad ⌝ }
     requires { ⌜ Held (now sums) (length (now starts)) k i ⌝ }
-    ensures { λ r. ⌜ ((t : Oriented) → t .pad ≡ pad → t .segments ≡ lentExons strand (now (starts .entry)) (now (ends .entry)) → r ≡ cdsBase t (codingBase strand (windowFrom first (now (bytes .entry)))) k) ⌝ }
+    ensures { λ r.
+        let base = codingBase strand (windowFrom first (now bytes.entry)) in
+        ⌜ ((t : Oriented)
+        → t .pad ≡ pad
+        → t .segments ≡ lentExons strand (now starts.entry) (now ends.entry)
+        → r ≡ cdsBase t base k) ⌝ }
 {
     if k < pad {
         return FetchedBase::Base(b'N');
@@ -102,7 +107,13 @@ pub(crate) fn fetch_ref_codon(
     requires { ⌜ Segments strand (now starts) (now ends) (now sums) (scalars .«cds_start_pad») ⌝ }
     requires { ⌜ scalars .«segment_count» ≡ length (now starts) ⌝ }
     requires { ⌜ (scalars .«total_cds_length» ≡ getD (now sums) (length (now starts)) 0) × (k < scalars .«total_cds_length») ⌝ }
-    ensures { λ r. ⌜ ((t : Oriented) → t .pad ≡ scalars .«cds_start_pad» → t .segments ≡ lentExons strand (now (starts .entry)) (now (ends .entry)) → totalCdsLength t ≡ scalars .«total_cds_length» → r ≡ fetchCodon t (codingBase strand (windowFrom first (now (bytes .entry)))) k) ⌝ }
+    ensures { λ r.
+        let base = codingBase strand (windowFrom first (now bytes.entry)) in
+        ⌜ ((t : Oriented)
+        → t .pad ≡ scalars .«cds_start_pad»
+        → t .segments ≡ lentExons strand (now starts.entry) (now ends.entry)
+        → totalCdsLength t ≡ scalars .«total_cds_length»
+        → r ≡ fetchCodon t base k) ⌝ }
 {
     let pad = scalars.cds_start_pad;
     let len = codon_length(scalars.total_cds_length, k);

@@ -8,7 +8,7 @@ ghost use lib.Dec.{eqb};
 ghost use Rattle.codon.specs.Bases.{isBase};
 ghost use Rattle.transcript.specs.Transcript.{Transcript};
 ghost use Rattle.transcript.specs.Admission.{admission};
-ghost use Rattle.consequence.specs.Window.{windowFrom};
+ghost use Rattle.consequence.specs.Window.{windowFrom, windowWasGiven};
 ghost use Rattle.consequence.specs.Call.{badAlt, windowRefusal, openingRefusal};
 
 // The largest start or end of a query.
@@ -49,7 +49,7 @@ fn is_elsewhere(chromosome: u16, call: u16, window: u16) -> bool
 
 // 17 for a position outside the window, 18 for another byte there.
 fn window_refusal(first: u64, bytes: &[u8], call: Call) -> u8
-    ensures { λ r. ⌜ r ≡ windowRefusal (windowFrom first (now (bytes .entry))) call ⌝ }
+    ensures { λ r. ⌜ r ≡ windowRefusal (windowFrom first (now bytes.entry)) call ⌝ }
 {
     let FetchedBase::Base(found) = base_at(first, bytes, call.position) else {
         return 17;
@@ -68,7 +68,10 @@ pub(crate) fn opening_refusal(
     bytes: &[u8],
     call: Call,
 ) -> u8
-    ensures { λ r. ⌜ ((t : Transcript) → admission t ≡ 0 → t .model .chromosome ≡ chromosome → r ≡ openingRefusal t (record { chromosome = «window_chromosome»; first = first; bytes = now (bytes .entry) }) call) ⌝ }
+    ensures { λ r. ⌜ ((t : Transcript)
+        → admission t ≡ 0
+        → t .model .chromosome ≡ chromosome
+        → r ≡ openingRefusal t (windowWasGiven «window_chromosome» first bytes) call) ⌝ }
 {
     if QUERY_LIMIT <= call.position {
         return 15;

@@ -9,7 +9,7 @@ ghost use Rattle.consequence.specs.Segments.{Held};
 // Of `count` segments the one that holds padded offset k, and the first for a pad place: a binary search.
 pub(crate) fn segment_of(sums: &[u32], count: usize, k: u32) -> usize
     requires { ⌜ (0 < count) × (count ≤ 512) × (count < length (now sums)) × (k < getD (now sums) count 0) ⌝ }
-    ensures { λ r. ⌜ Held (now (sums .entry)) count k r ⌝ }
+    ensures { λ r. ⌜ Held (now sums.entry) count k r ⌝ }
 {
     let mut lo: usize = 0;
     let mut hi = count;
@@ -27,7 +27,7 @@ pub(crate) fn segment_of(sums: &[u32], count: usize, k: u32) -> usize
 // The segment of padded offset k, where segment i holds the offset before it: each segment has a base.
 pub(crate) fn next_segment(sums: &[u32], i: usize, k: u32) -> usize
     requires { ⌜ (i < 512) × (i + 1 < length (now sums)) ⌝ }
-    ensures { λ r. ⌜ r ≡ cond (ltb k (getD (now (sums .entry)) (i + 1) 0)) i (i + 1) ⌝ }
+    ensures { λ r. ⌜ r ≡ cond (ltb k (getD (now sums.entry) (i + 1) 0)) i (i + 1) ⌝ }
 {
     if k < sums[i + 1] {
         return i;

@@ -10,7 +10,10 @@ ghost use Rattle.consequence.specs.Reading.{holdsSelenocysteine};
 // Whether the number stands among the first `count` codon numbers.
 pub(crate) fn holds_selenocysteine(codons: &[u32; 64], count: usize, number: u32) -> bool
     requires { ⌜ (count ≤ 64) × (count ≤ length (now codons)) ⌝ }
-    ensures { λ r. ⌜ ((t : Oriented) → count ≡ length (t .selenocysteine) → now (codons .entry) ≡ filled 64 (selenocysteineCodons t) → r ≡ holdsSelenocysteine t number) ⌝ }
+    ensures { λ r. ⌜ ((t : Oriented)
+        → count ≡ length (t .selenocysteine)
+        → now codons.entry ≡ filled 64 (selenocysteineCodons t)
+        → r ≡ holdsSelenocysteine t number) ⌝ }
 {
     let mut i = 0;
     while i < count {

@@ -9,7 +9,8 @@ use transcript::TranscriptModel;
 use transcript::admit;
 use transcript::question::refusal_number;
 ghost use mathlib.Core.Path.{_≡_};
-ghost use Rattle.transcript.specs.Transcript.{lent};
+ghost use Rattle.transcript.specs.Transcript.{wasGiven};
+ghost use Rattle.consequence.specs.Window.{windowWasGiven};
 ghost use Rattle.footprint.specs.Ranges.{sourceRanges};
 ghost use Rattle.consequence.specs.Call.{annotateSnv};
 
@@ -28,7 +29,10 @@ pub fn annotate_snv(
     seg_ends: &[u64],
     selenocysteine: &[u64],
 ) -> Called
-    ensures { λ r. ⌜ r ≡ annotateSnv sourceRanges (lent model (now («exon_starts» .entry)) (now («exon_ends» .entry)) (now («seg_phases» .entry)) (now («seg_exons» .entry)) (now («seg_starts» .entry)) (now («seg_ends» .entry)) (now (selenocysteine .entry))) (record { chromosome = «window_chromosome»; first = «window_first»; bytes = now (window .entry) }) call ⌝ }
+    ensures { λ r.
+        let t = wasGiven model «exon_starts» «exon_ends» «seg_phases» «seg_exons» «seg_starts» «seg_ends» selenocysteine in
+        let w = windowWasGiven «window_chromosome» «window_first» window in
+        ⌜ r ≡ annotateSnv sourceRanges t w call ⌝ }
 {
     let admitted = admit(
         model,

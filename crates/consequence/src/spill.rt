@@ -20,7 +20,7 @@ ghost use Rattle.locate.specs.Search.{Ready, Started};
 fn hits_donor(starts: &[u64], ends: &[u64], strand: Strand, n: usize, p: u64) -> bool
     requires { ⌜ Ready strand (now starts) (now ends) ⌝ }
     requires { ⌜ (n ≤ length (now starts)) × Started (lentExons strand (now starts) (now ends)) p n ⌝ }
-    ensures { λ r. ⌜ r ≡ any (spillsInto donorWindow (interval p (p + 1))) (lentGaps strand (now (starts .entry)) (now (ends .entry))) ⌝ }
+    ensures { λ r. ⌜ r ≡ any (spillsInto donorWindow (interval p (p + 1))) (lentGaps strand (now starts.entry) (now ends.entry)) ⌝ }
 {
     if n < 2 {
         return false;
@@ -33,7 +33,7 @@ fn hits_acceptor(starts: &[u64], ends: &[u64], strand: Strand, n: usize, p: u64)
     requires { ⌜ Ready strand (now starts) (now ends) ⌝ }
     requires { ⌜ (n ≤ length (now starts)) × Started (lentExons strand (now starts) (now ends)) p n ⌝ }
     requires { ⌜ p ≤ top ⌝ }
-    ensures { λ r. ⌜ r ≡ any (spillsInto acceptorWindow (interval p (p + 1))) (lentGaps strand (now (starts .entry)) (now (ends .entry))) ⌝ }
+    ensures { λ r. ⌜ r ≡ any (spillsInto acceptorWindow (interval p (p + 1))) (lentGaps strand (now starts.entry) (now ends.entry)) ⌝ }
 {
     if n == 0 {
         return false;
@@ -54,7 +54,10 @@ pub(crate) fn spill_at(
 ) -> SpliceSpill
     requires { ⌜ Ready strand (now starts) (now ends) ⌝ }
     requires { ⌜ p ≤ top ⌝ }
-    ensures { λ r. ⌜ ((t : Oriented) → t .exons ≡ lentExons strand (now (starts .entry)) (now (ends .entry)) → short ≡ any isFrameshiftGap (gaps (t .exons)) → r ≡ exonicSpliceSpill t (interval p (p + 1))) ⌝ }
+    ensures { λ r. ⌜ ((t : Oriented)
+        → t .exons ≡ lentExons strand (now starts.entry) (now ends.entry)
+        → short ≡ any isFrameshiftGap (gaps (t .exons))
+        → r ≡ exonicSpliceSpill t (interval p (p + 1))) ⌝ }
 {
     if !short {
         return SpliceSpill {

@@ -6,7 +6,8 @@ use locate::scalars_of;
 use locate::selenocysteine_codons;
 use transcript::TranscriptModel;
 ghost use mathlib.Core.Path.{_≡_};
-ghost use Rattle.transcript.specs.Transcript.{lent};
+ghost use Rattle.transcript.specs.Transcript.{Transcript, given};
+ghost use Rattle.consequence.specs.Window.{Window, windowGiven};
 ghost use Rattle.footprint.specs.Ranges.{sourceRanges};
 ghost use Rattle.consequence.specs.Call.{annotateSnv};
 ghost use Rattle.consequence.specs.Prepared.{Summed};
@@ -30,8 +31,13 @@ pub fn annotate_summed(
     cumulative_cds: &[u32],
     short: bool,
 ) -> Called
-    requires { ⌜ Summed (lent model (now «exon_starts») (now «exon_ends») (now «seg_phases») (now «seg_exons») (now «seg_starts») (now «seg_ends») (now selenocysteine)) (now «cumulative_exons») (now «cumulative_cds») short ⌝ }
-    ensures { λ r. ⌜ r ≡ annotateSnv sourceRanges (lent model (now («exon_starts» .entry)) (now («exon_ends» .entry)) (now («seg_phases» .entry)) (now («seg_exons» .entry)) (now («seg_starts» .entry)) (now («seg_ends» .entry)) (now (selenocysteine .entry))) (record { chromosome = «window_chromosome»; first = «window_first»; bytes = now (window .entry) }) call ⌝ }
+    ghost { Transcript × Window }
+    requires { λ g.
+        let t = given model «exon_starts» «exon_ends» «seg_phases» «seg_exons» «seg_starts» «seg_ends» selenocysteine in
+        let w = windowGiven «window_chromosome» «window_first» window in
+        ⌜ g ≡ (t, w) ⌝ }
+    requires { λ (t, w). ⌜ Summed t (now «cumulative_exons») (now «cumulative_cds») short ⌝ }
+    ensures { λ (t, w) r. ⌜ r ≡ annotateSnv sourceRanges t w call ⌝ }
 {
     let scalars = scalars_of(
         model,

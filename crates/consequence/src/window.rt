@@ -7,7 +7,7 @@ ghost use Rattle.consequence.specs.Window.{windowFrom, baseAt, codingByt
 
 // The byte at a coordinate, as it stands.
 pub(crate) fn base_at(first: u64, bytes: &[u8], p: u64) -> FetchedBase
-    ensures { λ r. ⌜ r ≡ baseAt (windowFrom first (now (bytes .entry))) p ⌝ }
+    ensures { λ r. ⌜ r ≡ baseAt (windowFrom first (now bytes.entry)) p ⌝ }
 {
     if p < first {
         return FetchedBase::OutsideWindow;
@@ -31,7 +31,7 @@ pub(crate) fn coding_byte(strand: Strand, b: u8) -> u8
 
 // The byte at a coordinate, as the coding strand has it.
 pub(crate) fn coding_base_at(strand: Strand, first: u64, bytes: &[u8], p: u64) -> FetchedBase
-    ensures { λ r. ⌜ r ≡ codingFetched strand (baseAt (windowFrom first (now (bytes .entry))) p) ⌝ }
+    ensures { λ r. ⌜ r ≡ codingFetched strand (baseAt (windowFrom first (now bytes.entry)) p) ⌝ }
 {
     let FetchedBase::Base(b) = base_at(first, bytes, p) else {
         return FetchedBase::OutsideWindow;

@@ -5,6 +5,8 @@ use mathlib.Core.Bool.{Bool, cond, not, _&&_}
 use mathlib.Core.List.{List, [], _∷_, map}
 use lib.ListN.{getD, take, drop, replicate}
 use lib.Dec.{ltb, eqb}
+use denote.Ref.{now}
+use Rattle.common.specs.Slices.{Slice, Passed}
 use Rattle.common.specs.Stored.{filled}
 use Rattle.transcript.specs.declared.CdsBounds.{CdsBounds}
 use Rattle.transcript.specs.declared.CdsBounds.the-variants.{Neither, Both}
@@ -21,6 +23,15 @@ use Rattle.deck.specs.Records.{lowest, kindOf, markOf, half, word, trans
 use Rattle.deck.specs.Walk.{walkDeck}
 use Rattle.deck.specs.Order.{orderOf}
 use Rattle.deck.specs.Deck.{strandOf, startComplete, txBounds, admittedThen, readDeck}
+
+-- the table whose columns are given, as a `requires` names them, and that was given, as an `ensures` does
+abbrev pub tableGiven : Slice → Slice → Slice → Slice → Slice → Slice → DeckTable
+tableGiven kinds marks ids numbers starts ends =
+    record { kinds = now kinds; marks = now marks; ids = now ids; numbers = now numbers; starts = now starts; ends = now ends }
+
+abbrev pub tableWasGiven : Passed → Passed → Passed → Passed → Passed → Passed → DeckTable
+tableWasGiven kinds marks ids numbers starts ends =
+    tableGiven (kinds .entry) (marks .entry) (ids .entry) (numbers .entry) (starts .entry) (ends .entry)
 
 -- a column: one field of the records given, then zeros
 abbrev pub column : (ℕ → ℕ) → List ℕ → List ℕ

@@ -14,7 +14,7 @@ ghost use Rattle.deck.specs.Table.{column, numberOf};
 // The records themselves.
 pub(crate) fn records_of(order: &[u16]) -> [u16; 4096]
     requires { ⌜ length (now order) ≤ 4096 ⌝ }
-    ensures { λ r. ⌜ r ≡ column (λ i. i) (now (order .entry)) ⌝ }
+    ensures { λ r. ⌜ r ≡ column (λ i. i) (now order.entry) ⌝ }
 {
     let mut out = [0u16; 4096];
     let mut i = 0;
@@ -28,7 +28,7 @@ pub(crate) fn records_of(order: &[u16]) -> [u16; 4096]
 // Byte k of each record.
 pub(crate) fn bytes_of(d: &[u8], order: &[u16], k: usize) -> [u8; 4096]
     requires { ⌜ (length (now order) ≤ 4096) × InDeck (now d) (now order) × (k ≤ 15) ⌝ }
-    ensures { λ r. ⌜ r ≡ column (λ i. at1 (now (d .entry)) (16 * i + k)) (now (order .entry)) ⌝ }
+    ensures { λ r. ⌜ r ≡ column (λ i. at1 (now d.entry) (16 * i + k)) (now order.entry) ⌝ }
 {
     let mut out = [0u8; 4096];
     let mut i = 0;
@@ -42,7 +42,7 @@ pub(crate) fn bytes_of(d: &[u8], order: &[u16], k: usize) -> [u8; 4096]
 // Bytes 4..8 of each record.
 pub(crate) fn ids_of(d: &[u8], order: &[u16]) -> [u32; 4096]
     requires { ⌜ (length (now order) ≤ 4096) × InDeck (now d) (now order) ⌝ }
-    ensures { λ r. ⌜ r ≡ column (λ i. word (now (d .entry)) i 4) (now (order .entry)) ⌝ }
+    ensures { λ r. ⌜ r ≡ column (λ i. word (now d.entry) i 4) (now order.entry) ⌝ }
 {
     let mut out = [0u32; 4096];
     let mut i = 0;
@@ -56,7 +56,7 @@ pub(crate) fn ids_of(d: &[u8], order: &[u16]) -> [u32; 4096]
 // The four bytes from k on of each record, wide.
 pub(crate) fn words_of(d: &[u8], order: &[u16], k: usize) -> [u64; 4096]
     requires { ⌜ (length (now order) ≤ 4096) × InDeck (now d) (now order) × (k ≤ 12) ⌝ }
-    ensures { λ r. ⌜ r ≡ column (λ i. word (now (d .entry)) i k) (now (order .entry)) ⌝ }
+    ensures { λ r. ⌜ r ≡ column (λ i. word (now d.entry) i k) (now order.entry) ⌝ }
 {
     let mut out = [0u64; 4096];
     let mut i = 0;
@@ -70,7 +70,7 @@ pub(crate) fn words_of(d: &[u8], order: &[u16], k: usize) -> [u64; 4096]
 // The chromosome of a transcript, the exon index of a segment.
 fn number_of(d: &[u8], i: usize) -> u16
     requires { ⌜ 16 * i + 16 ≤ length (now d) ⌝ }
-    ensures { λ r. ⌜ r ≡ numberOf (now (d .entry)) i ⌝ }
+    ensures { λ r. ⌜ r ≡ numberOf (now d.entry) i ⌝ }
 {
     if kind_of(d, i) == 1 {
         return half_of(d, i, 8);
@@ -80,7 +80,7 @@ fn number_of(d: &[u8], i: usize) -> u16
 
 pub(crate) fn numbers_of(d: &[u8], order: &[u16]) -> [u16; 4096]
     requires { ⌜ (length (now order) ≤ 4096) × InDeck (now d) (now order) ⌝ }
-    ensures { λ r. ⌜ r ≡ column (numberOf (now (d .entry))) (now (order .entry)) ⌝ }
+    ensures { λ r. ⌜ r ≡ column (numberOf (now d.entry)) (now order.entry) ⌝ }
 {
     let mut out = [0u16; 4096];
     let mut i = 0;

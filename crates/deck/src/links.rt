@@ -15,7 +15,7 @@ pub struct Link {
 // The link at byte k of record i.
 pub(crate) fn link_of(d: &[u8], i: usize, k: usize) -> usize
     requires { ⌜ (i < recordCount (now d)) × (k ≤ 14) ⌝ }
-    ensures { λ r. ⌜ r ≡ half (now (d .entry)) i k ⌝ }
+    ensures { λ r. ⌜ r ≡ half (now d.entry) i k ⌝ }
 {
     half_of(d, i, k) as usize
 }
@@ -23,7 +23,7 @@ pub(crate) fn link_of(d: &[u8], i: usize, k: usize) -> usize
 // The next exon of transcript t, else its bounds.
 pub(crate) fn exon_link(d: &[u8], t: usize, from: usize, to: usize) -> Link
     requires { ⌜ t < recordCount (now d) ⌝ }
-    ensures { λ r. ⌜ r ≡ exonLink (now (d .entry)) t from to ⌝ }
+    ensures { λ r. ⌜ r ≡ exonLink (now d.entry) t from to ⌝ }
 {
     if to == 0 {
         return Link {
@@ -38,7 +38,7 @@ pub(crate) fn exon_link(d: &[u8], t: usize, from: usize, to: usize) -> Link
 // The next segment of bounds b, else its first selenocysteine base.
 pub(crate) fn segment_link(d: &[u8], b: usize, from: usize, to: usize) -> Link
     requires { ⌜ b < recordCount (now d) ⌝ }
-    ensures { λ r. ⌜ r ≡ segmentLink (now (d .entry)) b from to ⌝ }
+    ensures { λ r. ⌜ r ≡ segmentLink (now d.entry) b from to ⌝ }
 {
     if to == 0 {
         return Link {
@@ -53,7 +53,7 @@ pub(crate) fn segment_link(d: &[u8], b: usize, from: usize, to: usize) -> Link
 // The link behind record `at` of transcript t with bounds b.
 pub(crate) fn next_link(d: &[u8], t: usize, b: usize, kind: u8, at: usize) -> Link
     requires { ⌜ (t < recordCount (now d)) × (b < recordCount (now d)) × (at < recordCount (now d)) ⌝ }
-    ensures { λ r. ⌜ r ≡ nextLink (now (d .entry)) t b kind at ⌝ }
+    ensures { λ r. ⌜ r ≡ nextLink (now d.entry) t b kind at ⌝ }
 {
     if kind == 3 {
         return exon_link(d, t, at, link_of(d, at, 2));

@@ -23,7 +23,7 @@ ghost use Prim.Native.Nat.{_≤_};
 ghost use mathlib.Core.Path.{_≡_};
 ghost use lib.ListN.{length};
 ghost use Rattle.transcript.specs.Admission.{admissionOf};
-ghost use Rattle.deck.specs.Table.{InOrder, transcriptIn, rowsFrom, admitRows, admitTable, tableOf, emptyTable, deckAs, deckOf};
+ghost use Rattle.deck.specs.Table.{InOrder, tableWasGiven, transcriptIn, rowsFrom, admitRows, admitTable, tableOf, emptyTable, deckAs, deckOf};
 ghost use Rattle.deck.specs.Reached.{InDeck};
 ghost use Rattle.deck.specs.declared.DeckAnswer.the-variants.{Refused};
 
@@ -38,7 +38,9 @@ fn admit_row(
     rows: Rows,
 ) -> Admission
     requires { ⌜ InOrder k rows ⌝ }
-    ensures { λ r. ⌜ r ≡ admissionOf (transcriptIn (now (marks .entry)) (now (ids .entry)) (now (numbers .entry)) (now (starts .entry)) (now (ends .entry)) k rows) ⌝ }
+    ensures { λ r.
+        let t = transcriptIn (now marks.entry) (now ids.entry) (now numbers.entry) (now starts.entry) (now ends.entry) k rows in
+        ⌜ r ≡ admissionOf t ⌝ }
 {
     admit(
         model_in(marks, ids, numbers, starts, ends, k, rows),
@@ -62,7 +64,9 @@ fn admit_rows(
     starts: &[u64; 4096],
     ends: &[u64; 4096],
 ) -> DeckAnswer
-    ensures { λ r. ⌜ r ≡ admitRows (now (records .entry)) (record { kinds = now (kinds .entry); marks = now (marks .entry); ids = now (ids .entry); numbers = now (numbers .entry); starts = now (starts .entry); ends = now (ends .entry) }) (rowsFrom 4096 (now (kinds .entry)) 0) ⌝ }
+    ensures { λ r.
+        let d = tableWasGiven kinds marks ids numbers starts ends in
+        ⌜ r ≡ admitRows (now records.entry) d (rowsFrom 4096 (d .kinds) 0) ⌝ }
 {
     let mut k = 0;
     while k < 4096 {
@@ -107,7 +111,9 @@ fn refused(number: u8, record: u16) -> Deck
 // The table of the records in the walk's order, and whether its transcripts are admitted.
 fn read_rows(d: &[u8], order: &[u16]) -> Deck
     requires { ⌜ (length (now order) ≤ 4096) × InDeck (now d) (now order) ⌝ }
-    ensures { λ r. ⌜ r ≡ deckAs (admitTable (now (order .entry)) (tableOf (now (d .entry)) (now (order .entry)))) (tableOf (now (d .entry)) (now (order .entry))) ⌝ }
+    ensures { λ r.
+        let t = tableOf (now d.entry) (now order.entry) in
+        ⌜ r ≡ deckAs (admitTable (now order.entry) t) t ⌝ }
 {
     let records = records_of(order);
     let kinds = bytes_of(d, order, 0);
@@ -135,7 +141,7 @@ fn read_rows(d: &[u8], order: &[u16]) -> Deck
 
 // The transcripts of a deck as a table, or the refusal: 22, 23, 25, 24, then 1 to 13 in chain order.
 pub fn read_deck(d: &[u8]) -> Deck
-    ensures { λ r. ⌜ r ≡ deckOf (now (d .entry)) ⌝ }
+    ensures { λ r. ⌜ r ≡ deckOf (now d.entry) ⌝ }
 {
     let mut order = [0u16; 4096];
     let s = judge(d, &mut order);

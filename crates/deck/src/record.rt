@@ -11,7 +11,7 @@ ghost use Rattle.deck.specs.Records.{kindOf, markOf, half, word, unusedN
 
 pub(crate) fn kind_of(d: &[u8], i: usize) -> u8
     requires { ⌜ 16 * i + 16 ≤ length (now d) ⌝ }
-    ensures { λ r. ⌜ r ≡ kindOf (now (d .entry)) i ⌝ }
+    ensures { λ r. ⌜ r ≡ kindOf (now d.entry) i ⌝ }
 {
     let at = 16 * i;
     d[at]
@@ -20,7 +20,7 @@ pub(crate) fn kind_of(d: &[u8], i: usize) -> u8
 // Byte k of record i.
 pub(crate) fn byte_of(d: &[u8], i: usize, k: usize) -> u8
     requires { ⌜ (16 * i + 16 ≤ length (now d)) × (k ≤ 15) ⌝ }
-    ensures { λ r. ⌜ r ≡ at1 (now (d .entry)) (16 * i + k) ⌝ }
+    ensures { λ r. ⌜ r ≡ at1 (now d.entry) (16 * i + k) ⌝ }
 {
     let at = 16 * i + k;
     d[at]
@@ -28,7 +28,7 @@ pub(crate) fn byte_of(d: &[u8], i: usize, k: usize) -> u8
 
 pub(crate) fn mark_of(d: &[u8], i: usize) -> u8
     requires { ⌜ 16 * i + 16 ≤ length (now d) ⌝ }
-    ensures { λ r. ⌜ r ≡ markOf (now (d .entry)) i ⌝ }
+    ensures { λ r. ⌜ r ≡ markOf (now d.entry) i ⌝ }
 {
     let at = 16 * i + 1;
     d[at]
@@ -37,7 +37,7 @@ pub(crate) fn mark_of(d: &[u8], i: usize) -> u8
 // The two-byte number at byte k of record i.
 pub(crate) fn half_of(d: &[u8], i: usize, k: usize) -> u16
     requires { ⌜ (16 * i + 16 ≤ length (now d)) × (k ≤ 14) ⌝ }
-    ensures { λ r. ⌜ r ≡ half (now (d .entry)) i k ⌝ }
+    ensures { λ r. ⌜ r ≡ half (now d.entry) i k ⌝ }
 {
     u16_at(d, 16 * i + k)
 }
@@ -45,7 +45,7 @@ pub(crate) fn half_of(d: &[u8], i: usize, k: usize) -> u16
 // The four-byte number at byte k of record i.
 pub(crate) fn word_of(d: &[u8], i: usize, k: usize) -> u32
     requires { ⌜ (16 * i + 16 ≤ length (now d)) × (k ≤ 12) ⌝ }
-    ensures { λ r. ⌜ r ≡ word (now (d .entry)) i k ⌝ }
+    ensures { λ r. ⌜ r ≡ word (now d.entry) i k ⌝ }
 {
     u32_at(d, 16 * i + k)
 }
@@ -62,14 +62,14 @@ fn either(a: bool, b: bool) -> bool
 // Whether the four-byte number at byte k of record i is not zero.
 fn word_used(d: &[u8], i: usize, k: usize) -> bool
     requires { ⌜ (16 * i + 16 ≤ length (now d)) × (k ≤ 12) ⌝ }
-    ensures { λ r. ⌜ r ≡ not (eqb (word (now (d .entry)) i k) 0) ⌝ }
+    ensures { λ r. ⌜ r ≡ not (eqb (word (now d.entry) i k) 0) ⌝ }
 {
     word_of(d, i, k) != 0
 }
 
 fn half_used(d: &[u8], i: usize, k: usize) -> bool
     requires { ⌜ (16 * i + 16 ≤ length (now d)) × (k ≤ 14) ⌝ }
-    ensures { λ r. ⌜ r ≡ not (eqb (half (now (d .entry)) i k) 0) ⌝ }
+    ensures { λ r. ⌜ r ≡ not (eqb (half (now d.entry) i k) 0) ⌝ }
 {
     half_of(d, i, k) != 0
 }
@@ -77,7 +77,7 @@ fn half_used(d: &[u8], i: usize, k: usize) -> bool
 // Whether bits or bytes that the record's kind does not use are not zero.
 fn unused_not_zero(d: &[u8], i: usize) -> bool
     requires { ⌜ 16 * i + 16 ≤ length (now d) ⌝ }
-    ensures { λ r. ⌜ r ≡ unusedNotZero (now (d .entry)) i ⌝ }
+    ensures { λ r. ⌜ r ≡ unusedNotZero (now d.entry) i ⌝ }
 {
     let kind = kind_of(d, i);
     let mark = mark_of(d, i);
@@ -108,7 +108,7 @@ fn unused_not_zero(d: &[u8], i: usize) -> bool
 // 23 of one record.
 pub(crate) fn bad_record(d: &[u8], i: usize) -> bool
     requires { ⌜ 16 * i + 16 ≤ length (now d) ⌝ }
-    ensures { λ r. ⌜ r ≡ badRecord (now (d .entry)) i ⌝ }
+    ensures { λ r. ⌜ r ≡ badRecord (now d.entry) i ⌝ }
 {
     let kind = kind_of(d, i);
     if i == 0 {
@@ -126,7 +126,7 @@ pub(crate) fn bad_record(d: &[u8], i: usize) -> bool
 // The lowest of the first n records that is at fault, n where none is.
 pub(crate) fn first_bad(d: &[u8], n: usize) -> usize
     requires { ⌜ 16 * n ≤ length (now d) ⌝ }
-    ensures { λ r. ⌜ r ≡ lowest (badRecord (now (d .entry))) n 0 ⌝ }
+    ensures { λ r. ⌜ r ≡ lowest (badRecord (now d.entry)) n 0 ⌝ }
 {
     let mut i = 0;
     while i < n {

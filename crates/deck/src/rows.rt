@@ -22,7 +22,7 @@ pub struct Rows {
 // The row behind those of a kind, from a row on.
 fn run_end(kinds: &[u8; 4096], kind: u8, from: usize) -> usize
     requires { ⌜ from ≤ 4096 ⌝ }
-    ensures { λ r. ⌜ (r ≡ runEnd (now (kinds .entry)) kind from) × (from ≤ r) × (r ≤ 4096) ⌝ }
+    ensures { λ r. ⌜ (r ≡ runEnd (now kinds.entry) kind from) × (from ≤ r) × (r ≤ 4096) ⌝ }
 {
     let mut i = from;
     while i < 4096 {
@@ -37,7 +37,7 @@ fn run_end(kinds: &[u8; 4096], kind: u8, from: usize) -> usize
 // The row behind the bounds that may stand at a row.
 fn bounds_end(kinds: &[u8; 4096], at: usize) -> usize
     requires { ⌜ at ≤ 4096 ⌝ }
-    ensures { λ r. ⌜ (r ≡ boundsEnd (now (kinds .entry)) at) × (at ≤ r) × (r ≤ 4096) ⌝ }
+    ensures { λ r. ⌜ (r ≡ boundsEnd (now kinds.entry) at) × (at ≤ r) × (r ≤ 4096) ⌝ }
 {
     if at == 4096 {
         return at;
@@ -51,7 +51,7 @@ fn bounds_end(kinds: &[u8; 4096], at: usize) -> usize
 // The rows of the transcript at row k.
 pub fn rows_at(kinds: &[u8; 4096], k: usize) -> Rows
     requires { ⌜ k < 4096 ⌝ }
-    ensures { λ r. ⌜ (r ≡ rowsAt (now (kinds .entry)) k) × InOrder k r ⌝ }
+    ensures { λ r. ⌜ (r ≡ rowsAt (now kinds.entry) k) × InOrder k r ⌝ }
 {
     let exons = run_end(kinds, 3, k + 1);
     let bounds = bounds_end(kinds, exons);
@@ -83,7 +83,7 @@ fn start_complete(mark: u8) -> bool
 // The outer edges of the first and last exon.
 fn tx_bounds(starts: &[u64], ends: &[u64], strand: Strand) -> Exon
     requires { ⌜ length (now starts) ≡ length (now ends) ⌝ }
-    ensures { λ r. ⌜ r ≡ txBounds strand (exonsOf (now (starts .entry)) (now (ends .entry))) ⌝ }
+    ensures { λ r. ⌜ r ≡ txBounds strand (exonsOf (now starts.entry) (now ends.entry)) ⌝ }
 {
     let n = starts.len();
     if n == 0 {
@@ -108,7 +108,7 @@ fn tx_bounds(starts: &[u64], ends: &[u64], strand: Strand) -> Exon
 // The bounds behind the exons, if any stand there.
 fn bounds_in(starts: &[u64; 4096], ends: &[u64; 4096], exons: usize, bounds: usize) -> CdsBounds
     requires { ⌜ (exons ≤ bounds) × (bounds ≤ 4096) ⌝ }
-    ensures { λ r. ⌜ r ≡ boundsBetween (now (starts .entry)) (now (ends .entry)) exons bounds ⌝ }
+    ensures { λ r. ⌜ r ≡ boundsBetween (now starts.entry) (now ends.entry) exons bounds ⌝ }
 {
     if bounds == exons {
         return CdsBounds::Neither;
@@ -130,7 +130,7 @@ pub fn model_in(
     rows: Rows,
 ) -> TranscriptModel
     requires { ⌜ InOrder k rows ⌝ }
-    ensures { λ r. ⌜ r ≡ modelIn (now (marks .entry)) (now (ids .entry)) (now (numbers .entry)) (now (starts .entry)) (now (ends .entry)) k rows ⌝ }
+    ensures { λ r. ⌜ r ≡ modelIn (now marks.entry) (now ids.entry) (now numbers.entry) (now starts.entry) (now ends.entry) k rows ⌝ }
 {
     let mark = marks[k];
     let strand = strand_of(mark);

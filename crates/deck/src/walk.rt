@@ -21,7 +21,7 @@ pub enum Walked {
 // A link outside the deck, to a wrong kind, or to a record already reached.
 fn bad_link(d: &[u8], kind: u8, to: usize, reached: &[u8; 4096]) -> bool
     requires { ⌜ length (now d) ≤ 65536 ⌝ }
-    ensures { λ r. ⌜ r ≡ (leb (recordCount (now (d .entry))) to || not (eqb (kindOf (now (d .entry)) to) kind) || eqb (getD (now (reached .entry)) to 0) 1) ⌝ }
+    ensures { λ r. ⌜ r ≡ (leb (recordCount (now d.entry)) to || not (eqb (kindOf (now d.entry) to) kind) || eqb (getD (now reached.entry) to 0) 1) ⌝ }
 {
     if d.len() / 16 <= to {
         return true;
@@ -35,7 +35,7 @@ fn bad_link(d: &[u8], kind: u8, to: usize, reached: &[u8; 4096]) -> bool
 // The lowest of the first n records that is not reached, n where all are.
 fn first_unreached(reached: &[u8; 4096], n: usize) -> usize
     requires { ⌜ n ≤ 4096 ⌝ }
-    ensures { λ r. ⌜ r ≡ lowest (λ i. not (eqb (getD (now (reached .entry)) i 0) 1)) n 0 ⌝ }
+    ensures { λ r. ⌜ r ≡ lowest (λ i. not (eqb (getD (now reached.entry) i 0) 1)) n 0 ⌝ }
 {
     let mut i = 0;
     while i < n {
@@ -50,7 +50,7 @@ fn first_unreached(reached: &[u8; 4096], n: usize) -> usize
 // Every record reached from the head, in order. The first bad link ends the whole walk; else a record never reached is bad.
 pub(crate) fn walk(d: &[u8], order: &mut [u16; 4096]) -> Walked
     requires { ⌜ (16 ≤ length (now d)) × (length (now d) ≤ 65536) × (length (now order) ≡ 4096) ⌝ }
-    ensures { λ r. ⌜ WalkEnds (now (d .entry)) r (now (order .exit)) ⌝ }
+    ensures { λ r. ⌜ WalkEnds (now d.entry) r (now order.exit) ⌝ }
 {
     let mut reached = [0u8; 4096];
     reached[0] = 1;

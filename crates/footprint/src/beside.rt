@@ -9,7 +9,7 @@ use transcript::TranscriptModel;
 use transcript::question::refusal_number;
 ghost use mathlib.Core.Path.{_≡_};
 ghost use Prim.Native.Nat.{_<_};
-ghost use Rattle.transcript.specs.Transcript.{lent};
+ghost use Rattle.transcript.specs.Transcript.{wasGiven};
 ghost use Rattle.footprint.specs.Ranges.{sourceRanges};
 ghost use Rattle.footprint.specs.Lent.{spanOf};
 ghost use Rattle.footprint.specs.Flank.{flankDistance, flankOf};
@@ -61,7 +61,9 @@ pub fn classify_flank(
     seg_ends: &[u64],
     selenocysteine: &[u64],
 ) -> Flanked
-    ensures { λ r. ⌜ r ≡ flank sourceRanges (lent model (now («exon_starts» .entry)) (now («exon_ends» .entry)) (now («seg_phases» .entry)) (now («seg_exons» .entry)) (now («seg_starts» .entry)) (now («seg_ends» .entry)) (now (selenocysteine .entry))) chromosome start end ⌝ }
+    ensures { λ r.
+        let t = wasGiven model «exon_starts» «exon_ends» «seg_phases» «seg_exons» «seg_starts» «seg_ends» selenocysteine in
+        ⌜ r ≡ flank sourceRanges t chromosome start end ⌝ }
 {
     let admitted = admit_interval(
         chromosome,

@@ -16,7 +16,7 @@ ghost use Prim.Native.Nat.{_≤_};
 ghost use lib.ListN.{length};
 ghost use Rattle.common.specs.Lists.{any};
 ghost use Rattle.transcript.specs.Limits.{maxExons};
-ghost use Rattle.transcript.specs.Transcript.{exonsOf, lent};
+ghost use Rattle.transcript.specs.Transcript.{exonsOf, wasGiven};
 ghost use Rattle.transcript.specs.Orient.{Oriented};
 ghost use Rattle.transcript.specs.Admission.{badExon};
 ghost use Rattle.transcript.specs.Lent.{lentExons};
@@ -57,7 +57,9 @@ pub(crate) fn endpoint_of(starts: &[u64], ends: &[u64], strand: Strand, q: Span)
     requires { ⌜ length (now starts) ≡ length (now ends) ⌝ }
     requires { ⌜ any badExon (exonsOf (now starts) (now ends)) ≡ false ⌝ }
     requires { ⌜ (length (now starts) ≤ maxExons) × (q .start ≤ q .end) ⌝ }
-    ensures { λ r. ⌜ ((t : Oriented) → t .exons ≡ lentExons strand (now (starts .entry)) (now (ends .entry)) → r ≡ frameshiftIntronEndpoint t (spanOf q)) ⌝ }
+    ensures { λ r. ⌜ ((t : Oriented)
+        → t .exons ≡ lentExons strand (now starts.entry) (now ends.entry)
+        → r ≡ frameshiftIntronEndpoint t (spanOf q)) ⌝ }
 {
     let mut i = 0;
     while i + 1 < starts.len() {
@@ -84,7 +86,9 @@ pub fn frameshift_intron_endpoint(
     seg_ends: &[u64],
     selenocysteine: &[u64],
 ) -> Endpoint
-    ensures { λ r. ⌜ r ≡ shortIntron (lent model (now («exon_starts» .entry)) (now («exon_ends» .entry)) (now («seg_phases» .entry)) (now («seg_exons» .entry)) (now («seg_starts» .entry)) (now («seg_ends» .entry)) (now (selenocysteine .entry))) chromosome start end ⌝ }
+    ensures { λ r.
+        let t = wasGiven model «exon_starts» «exon_ends» «seg_phases» «seg_exons» «seg_starts» «seg_ends» selenocysteine in
+        ⌜ r ≡ shortIntron t chromosome start end ⌝ }
 {
     let admitted = admit_interval(
         chromosome,

@@ -20,7 +20,7 @@ pub(crate) fn gap_after(starts: &[u64], ends: &[u64], strand: Strand, i: usize) 
     requires { ⌜ length (now starts) ≡ length (now ends) ⌝ }
     requires { ⌜ any badExon (exonsOf (now starts) (now ends)) ≡ false ⌝ }
     requires { ⌜ i + 1 < length (now starts) ⌝ }
-    ensures { λ r. ⌜ (spanOf r ≡ getD (lentGaps strand (now (starts .entry)) (now (ends .entry))) i (interval 0 0)) × (r .start ≤ top) ⌝ }
+    ensures { λ r. ⌜ (spanOf r ≡ getD (lentGaps strand (now starts.entry) (now ends.entry)) i (interval 0 0)) × (r .start ≤ top) ⌝ }
 {
     let s = starts[i];
     let e = ends[i];
@@ -46,7 +46,7 @@ pub(crate) fn is_frameshift_gap(gap: Span) -> bool
 pub fn has_frameshift_intron(starts: &[u64], ends: &[u64], strand: Strand) -> bool
     requires { ⌜ length (now starts) ≡ length (now ends) ⌝ }
     requires { ⌜ any badExon (exonsOf (now starts) (now ends)) ≡ false ⌝ }
-    ensures { λ r. ⌜ r ≡ any isFrameshiftGap (lentGaps strand (now (starts .entry)) (now (ends .entry))) ⌝ }
+    ensures { λ r. ⌜ r ≡ any isFrameshiftGap (lentGaps strand (now starts.entry) (now ends.entry)) ⌝ }
 {
     let mut i = 0;
     while i + 1 < starts.len() {

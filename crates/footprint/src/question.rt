@@ -5,7 +5,7 @@ use transcript::admit;
 use transcript::question::bad_interval;
 use transcript::question::refusal_number;
 ghost use mathlib.Core.Path.{_≡_};
-ghost use Rattle.transcript.specs.Transcript.{lent};
+ghost use Rattle.transcript.specs.Transcript.{wasGiven};
 ghost use Rattle.footprint.specs.Question.{asked};
 
 // Whether the question about [start, end) is admitted, or the number of its refusal.
@@ -22,7 +22,9 @@ pub(crate) fn admit_interval(
     seg_ends: &[u64],
     selenocysteine: &[u64],
 ) -> Admission
-    ensures { λ r. ⌜ r ≡ asked (lent model (now («exon_starts» .entry)) (now («exon_ends» .entry)) (now («seg_phases» .entry)) (now («seg_exons» .entry)) (now («seg_starts» .entry)) (now («seg_ends» .entry)) (now (selenocysteine .entry))) chromosome start end ⌝ }
+    ensures { λ r.
+        let t = wasGiven model «exon_starts» «exon_ends» «seg_phases» «seg_exons» «seg_starts» «seg_ends» selenocysteine in
+        ⌜ r ≡ asked t chromosome start end ⌝ }
 {
     let admitted = admit(
         model,

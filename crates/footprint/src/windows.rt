@@ -17,7 +17,7 @@ ghost use Prim.Native.Nat.{_≤_};
 ghost use lib.ListN.{length};
 ghost use Rattle.common.specs.Lists.{any};
 ghost use Rattle.transcript.specs.Limits.{top};
-ghost use Rattle.transcript.specs.Transcript.{exonsOf, lent};
+ghost use Rattle.transcript.specs.Transcript.{exonsOf, wasGiven};
 ghost use Rattle.transcript.specs.Orient.{interval, Oriented};
 ghost use Rattle.transcript.specs.Admission.{badExon};
 ghost use Rattle.transcript.specs.Lent.{lentExons};
@@ -83,7 +83,9 @@ pub(crate) fn spill_of(
 ) -> SpliceSpill
     requires { ⌜ length (now starts) ≡ length (now ends) ⌝ }
     requires { ⌜ any badExon (exonsOf (now starts) (now ends)) ≡ false ⌝ }
-    ensures { λ r. ⌜ ((t : Oriented) → t .exons ≡ lentExons strand (now (starts .entry)) (now (ends .entry)) → r ≡ exonicSpliceSpill t (interval from to)) ⌝ }
+    ensures { λ r. ⌜ ((t : Oriented)
+        → t .exons ≡ lentExons strand (now starts.entry) (now ends.entry)
+        → r ≡ exonicSpliceSpill t (interval from to)) ⌝ }
 {
     let q = Span {
         start: from,
@@ -115,7 +117,9 @@ pub fn exonic_splice_spill(
     seg_ends: &[u64],
     selenocysteine: &[u64],
 ) -> Spilled
-    ensures { λ r. ⌜ r ≡ spill (lent model (now («exon_starts» .entry)) (now («exon_ends» .entry)) (now («seg_phases» .entry)) (now («seg_exons» .entry)) (now («seg_starts» .entry)) (now («seg_ends» .entry)) (now (selenocysteine .entry))) chromosome start end ⌝ }
+    ensures { λ r.
+        let t = wasGiven model «exon_starts» «exon_ends» «seg_phases» «seg_exons» «seg_starts» «seg_ends» selenocysteine in
+        ⌜ r ≡ spill t chromosome start end ⌝ }
 {
     let admitted = admit_interval(
         chromosome,

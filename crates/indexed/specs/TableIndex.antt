@@ -5,6 +5,8 @@ use mathlib.Core.Bool.{Bool, false, cond, _&&_}
 use mathlib.Core.List.{List, [], _∷_, map}
 use lib.ListN.{set, replicate}
 use lib.Dec.{eqb}
+use denote.Ref.{RefT, now}
+use Rattle.common.specs.Slices.{Slice}
 use Rattle.common.specs.Lists.{any}
 use Rattle.common.specs.Stored.{stored}
 use Rattle.transcript.specs.Transcript.{Transcript}
@@ -18,6 +20,9 @@ use Rattle.deck.specs.declared.rows.Rows.{Rows}
 use Rattle.deck.specs.Table.{rowsAt, transcriptAt, transcriptRows}
 use Rattle.indexed.specs.declared.TableIndex.{TableIndex}
 use Rattle.indexed.specs.declared.row.RowIndex.{RowIndex}
+
+abbrev Marks : Type 0
+Marks = RefT (List Bool)
 
 abbrev pub isAdmitted : Transcript → Bool
 isAdmitted t = eqb (admission t) 0
@@ -69,6 +74,11 @@ emptyIndex = record {
   bases = replicate 4096 0;
   sums = replicate 4096 0;
 }
+
+-- the index whose columns are given, as a `requires` names them
+abbrev pub indexGiven : Marks → Marks → Slice → Slice → Slice → Slice → Slice → TableIndex
+indexGiven admitted short exons bounds segments bases sums =
+    record { admitted = now admitted; short = now short; exons = now exons; bounds = now bounds; segments = now segments; bases = now bases; sums = now sums }
 
 -- the index of a table
 abbrev pub tableIndex : DeckTable → TableIndex

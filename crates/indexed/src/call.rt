@@ -13,6 +13,7 @@ ghost use mathlib.Core.Path.{_≡_};
 ghost use Prim.Native.Nat.{_<_};
 ghost use lib.ListN.{getD, drop};
 ghost use Rattle.footprint.specs.Ranges.{sourceRanges};
+ghost use Rattle.consequence.specs.Window.{windowWasGiven};
 ghost use Rattle.consequence.specs.Call.{annotateSnv};
 ghost use Rattle.consequence.specs.Prepared.{Summed};
 ghost use Rattle.deck.specs.Table.{InOrder, transcriptIn};
@@ -33,7 +34,12 @@ pub(crate) fn rows_in(
     k: usize,
 ) -> Rows
     requires { ⌜ k < 4096 ⌝ }
-    ensures { λ r. ⌜ r ≡ record { exons = getD (now (exons .entry)) k 0; bounds = getD (now (bounds .entry)) k 0; segments = getD (now (segments .entry)) k 0; bases = getD (now (bases .entry)) k 0 } ⌝ }
+    ensures { λ r. ⌜ r ≡ record {
+      exons = getD (now exons.entry) k 0;
+      bounds = getD (now bounds.entry) k 0;
+      segments = getD (now segments.entry) k 0;
+      bases = getD (now bases.entry) k 0;
+    } ⌝ }
 {
     Rows {
         exons: widened(exons[k]),
@@ -56,7 +62,7 @@ fn cds_row(k: usize, rows: Rows) -> usize
 // The sums from a row on.
 fn sums_from(sums: &[u32; 4096], row: usize) -> &[u32]
     requires { ⌜ row < 4096 ⌝ }
-    ensures { λ r. ⌜ now r ≡ drop row (now (sums .entry)) ⌝ }
+    ensures { λ r. ⌜ now r ≡ drop row (now sums.entry) ⌝ }
 {
     let all = &sums[..];
     &all[row..]
@@ -79,8 +85,12 @@ pub(crate) fn call_indexed(
     short: bool,
 ) -> Called
     requires { ⌜ InOrder k rows ⌝ }
-    requires { ⌜ Summed (transcriptIn (now marks) (now ids) (now numbers) (now starts) (now ends) k rows) (drop k (now sums)) (drop (cdsRow k rows) (now sums)) short ⌝ }
-    ensures { λ r. ⌜ r ≡ annotateSnv sourceRanges (transcriptIn (now (marks .entry)) (now (ids .entry)) (now (numbers .entry)) (now (starts .entry)) (now (ends .entry)) k rows) (record { chromosome = «window_chromosome»; first = «window_first»; bytes = now (window .entry) }) call ⌝ }
+    requires { let t = transcriptIn (now marks) (now ids) (now numbers) (now starts) (now ends) k rows in
+        ⌜ Summed t (drop k (now sums)) (drop (cdsRow k rows) (now sums)) short ⌝ }
+    ensures { λ r.
+        let t = transcriptIn (now marks.entry) (now ids.entry) (now numbers.entry) (now starts.entry) (now ends.entry) k rows in
+        let w = windowWasGiven «window_chromosome» «window_first» window in
+        ⌜ r ≡ annotateSnv sourceRanges t w call ⌝ }
 {
     annotate_summed(
         window_chromosome,

@@ -4,6 +4,7 @@ use crate::row::index_row;
 use deck::rows::rows_at;
 use listing::step::is_transcript;
 ghost use mathlib.Core.Path.{_≡_};
+ghost use Rattle.deck.specs.Table.{tableWasGiven};
 ghost use Rattle.indexed.specs.TableIndex.{tableIndex};
 
 // What is computed once for the transcripts of a table.
@@ -15,7 +16,7 @@ pub fn index_table(
     starts: &[u64; 4096],
     ends: &[u64; 4096],
 ) -> TableIndex
-    ensures { λ r. ⌜ r ≡ tableIndex (record { kinds = now (kinds .entry); marks = now (marks .entry); ids = now (ids .entry); numbers = now (numbers .entry); starts = now (starts .entry); ends = now (ends .entry) }) ⌝ }
+    ensures { λ r. ⌜ r ≡ tableIndex (tableWasGiven kinds marks ids numbers starts ends) ⌝ }
 {
     let mut admitted = [false; 4096];
     let mut short = [false; 4096];

@@ -15,7 +15,7 @@ use transcript::order::pad_of;
 ghost use mathlib.Core.Path.{_≡_};
 ghost use Prim.Native.Nat.{_+_, _≤_, _<_};
 ghost use lib.ListN.{length};
-ghost use Rattle.transcript.specs.Transcript.{lent};
+ghost use Rattle.transcript.specs.Transcript.{Transcript, given};
 ghost use Rattle.transcript.specs.Admission.{admission};
 ghost use Rattle.deck.specs.Table.{InOrder, transcriptIn};
 ghost use Rattle.indexed.specs.TableIndex.{rowIndex, rowSums};
@@ -40,9 +40,11 @@ fn index_transcript(
     seg_ends: &[u64],
     selenocysteine: &[u64],
 ) -> RowIndex
-    requires { ⌜ (row + length (now «exon_starts») < «cds_row») × («cds_row» ≤ length (now sums)) ⌝ }
-    requires { ⌜ (admission (lent model (now «exon_starts») (now «exon_ends») (now «seg_phases») (now «seg_exons») (now «seg_starts») (now «seg_ends») (now selenocysteine)) ≡ 0 → 0 < length (now «seg_starts») → «cds_row» + length (now «seg_starts») < length (now sums)) ⌝ }
-    ensures { λ r. ⌜ (r ≡ rowIndex (lent model (now («exon_starts» .entry)) (now («exon_ends» .entry)) (now («seg_phases» .entry)) (now («seg_exons» .entry)) (now («seg_starts» .entry)) (now («seg_ends» .entry)) (now (selenocysteine .entry)))) × (now (sums .exit) ≡ rowSums (lent model (now («exon_starts» .entry)) (now («exon_ends» .entry)) (now («seg_phases» .entry)) (now («seg_exons» .entry)) (now («seg_starts» .entry)) (now («seg_ends» .entry)) (now (selenocysteine .entry))) row «cds_row» (now (sums .entry))) ⌝ }
+    ghost { Transcript }
+    requires { λ t. ⌜ t ≡ given model «exon_starts» «exon_ends» «seg_phases» «seg_exons» «seg_starts» «seg_ends» selenocysteine ⌝ }
+    requires { λ _. ⌜ (row + length (now «exon_starts») < «cds_row») × («cds_row» ≤ length (now sums)) ⌝ }
+    requires { λ t. ⌜ (admission t ≡ 0 → 0 < length (now «seg_starts») → «cds_row» + length (now «seg_starts») < length (now sums)) ⌝ }
+    ensures { λ t r. ⌜ (r ≡ rowIndex t) × (now sums.exit ≡ rowSums t row «cds_row» (now sums.entry)) ⌝ }
 {
     let admission = admit(
         model,
@@ -90,7 +92,9 @@ pub(crate) fn index_row(
 ) -> RowIndex
     requires { ⌜ InOrder row rows ⌝ }
     requires { ⌜ length (now sums) ≡ 4096 ⌝ }
-    ensures { λ r. ⌜ (r ≡ rowIndex (transcriptIn (now (marks .entry)) (now (ids .entry)) (now (numbers .entry)) (now (starts .entry)) (now (ends .entry)) row rows)) × (now (sums .exit) ≡ rowSums (transcriptIn (now (marks .entry)) (now (ids .entry)) (now (numbers .entry)) (now (starts .entry)) (now (ends .entry)) row rows) row (rows .exons) (now (sums .entry))) ⌝ }
+    ensures { λ r.
+        let t = transcriptIn (now marks.entry) (now ids.entry) (now numbers.entry) (now starts.entry) (now ends.entry) row rows in
+        ⌜ (r ≡ rowIndex t) × (now sums.exit ≡ rowSums t row (rows .exons) (now sums.entry)) ⌝ }
 {
     index_transcript(
         sums,

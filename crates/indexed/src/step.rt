@@ -13,7 +13,9 @@ use listing::step::line_listed;
 use listing::step::malformed_line;
 use listing::step::next_called;
 ghost use mathlib.Core.Path.{_≡_};
-ghost use Rattle.indexed.specs.TableIndex.{tableIndex};
+ghost use Rattle.consequence.specs.Window.{windowWasGiven};
+ghost use Rattle.deck.specs.Table.{tableGiven, tableWasGiven};
+ghost use Rattle.indexed.specs.TableIndex.{tableIndex, indexGiven};
 ghost use Rattle.listing.specs.Steps.{nextCalled, nextLine, listedAs, listedTo, Advances};
 
 // The line of one call for the transcript at the cursor.
@@ -39,8 +41,12 @@ fn next_called_indexed(
     behind: Cursor,
     out: &mut [u8],
 ) -> Listed
-    requires { ⌜ record { admitted = now admitted; short = now short; exons = now exons; bounds = now bounds; segments = now segments; bases = now bases; sums = now sums } ≡ tableIndex (record { kinds = now kinds; marks = now marks; ids = now ids; numbers = now numbers; starts = now starts; ends = now ends }) ⌝ }
-    ensures { λ r. ⌜ (r ≡ listedAs (now (out .entry)) (nextCalled (record { kinds = now (kinds .entry); marks = now (marks .entry); ids = now (ids .entry); numbers = now (numbers .entry); starts = now (starts .entry); ends = now (ends .entry) }) (record { chromosome = «window_chromosome»; first = «window_first»; bytes = now (window .entry) }) cursor behind call)) × (now (out .exit) ≡ listedTo (now (out .entry)) (nextCalled (record { kinds = now (kinds .entry); marks = now (marks .entry); ids = now (ids .entry); numbers = now (numbers .entry); starts = now (starts .entry); ends = now (ends .entry) }) (record { chromosome = «window_chromosome»; first = «window_first»; bytes = now (window .entry) }) cursor behind call)) ⌝ }
+    requires { ⌜ indexGiven admitted short exons bounds segments bases sums ≡ tableIndex (tableGiven kinds marks ids numbers starts ends) ⌝ }
+    ensures { λ r.
+        let d = tableWasGiven kinds marks ids numbers starts ends in
+        let w = windowWasGiven «window_chromosome» «window_first» window in
+        let next = nextCalled d w cursor behind call in
+        ⌜ (r ≡ listedAs (now out.entry) next) × (now out.exit ≡ listedTo (now out.entry) next) ⌝ }
 {
     let row = cursor.row;
     if !is_transcript(kinds, row) {
@@ -106,9 +112,13 @@ pub fn next_line_indexed(
     cursor: Cursor,
     out: &mut [u8],
 ) -> Listed
-    requires { ⌜ record { admitted = now admitted; short = now short; exons = now exons; bounds = now bounds; segments = now segments; bases = now bases; sums = now sums } ≡ tableIndex (record { kinds = now kinds; marks = now marks; ids = now ids; numbers = now numbers; starts = now starts; ends = now ends }) ⌝ }
-    ensures { λ r. ⌜ (r ≡ listedAs (now (out .entry)) (nextLine (record { kinds = now (kinds .entry); marks = now (marks .entry); ids = now (ids .entry); numbers = now (numbers .entry); starts = now (starts .entry); ends = now (ends .entry) }) (record { chromosome = «window_chromosome»; first = «window_first»; bytes = now (window .entry) }) (now (calls .entry)) cursor)) × (now (out .exit) ≡ listedTo (now (out .entry)) (nextLine (record { kinds = now (kinds .entry); marks = now (marks .entry); ids = now (ids .entry); numbers = now (numbers .entry); starts = now (starts .entry); ends = now (ends .entry) }) (record { chromosome = «window_chromosome»; first = «window_first»; bytes = now (window .entry) }) (now (calls .entry)) cursor)) ⌝ }
-    ensures { λ r. ⌜ Advances (now (calls .entry)) cursor (now (out .entry)) r ⌝ }
+    requires { ⌜ indexGiven admitted short exons bounds segments bases sums ≡ tableIndex (tableGiven kinds marks ids numbers starts ends) ⌝ }
+    ensures { λ r.
+        let d = tableWasGiven kinds marks ids numbers starts ends in
+        let w = windowWasGiven «window_chromosome» «window_first» window in
+        let next = nextLine d w (now calls.entry) cursor in
+        ⌜ (r ≡ listedAs (now out.entry) next) × (now out.exit ≡ listedTo (now out.entry) next) ⌝ }
+    ensures { λ r. ⌜ Advances (now calls.entry) cursor (now out.entry) r ⌝ }
 {
     let asked = asked_at(calls, cursor);
     match asked {

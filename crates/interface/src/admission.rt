@@ -3,7 +3,7 @@ use transcript::admit;
 use transcript::question::refusal_number;
 use words::model_of;
 ghost use mathlib.Core.Path.{_≡_};
-ghost use Rattle.transcript.specs.Transcript.{lent};
+ghost use Rattle.transcript.specs.Transcript.{wasGiven};
 ghost use Rattle.transcript.specs.Admission.{admissionOf};
 ghost use Rattle.transcript.specs.Numbers.{admissionNumber};
 ghost use Rattle.words.specs.Model.{modelOf};
@@ -29,7 +29,10 @@ pub extern "C" fn vareffect_admit(
     seg_ends: &[u64],
     selenocysteine: &[u64],
 ) -> u8
-    ensures { λ r. ⌜ r ≡ admissionNumber (admissionOf (lent (modelOf id chromosome minus «exon_count» «tx_start» «tx_end» «has_cds» «cds_start» «cds_end» «start_complete») (now («exon_starts» .entry)) (now («exon_ends» .entry)) (now («seg_phases» .entry)) (now («seg_exons» .entry)) (now («seg_starts» .entry)) (now («seg_ends» .entry)) (now (selenocysteine .entry)))) ⌝ }
+    ensures { λ r.
+        let m = modelOf id chromosome minus «exon_count» «tx_start» «tx_end» «has_cds» «cds_start» «cds_end» «start_complete» in
+        let t = wasGiven m «exon_starts» «exon_ends» «seg_phases» «seg_exons» «seg_starts» «seg_ends» selenocysteine in
+        ⌜ r ≡ admissionNumber (admissionOf t) ⌝ }
 {
     let model = model_of(
         id,

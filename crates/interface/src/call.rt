@@ -4,7 +4,8 @@ use consequence::Called;
 use consequence::annotate_snv;
 use transcript::TranscriptModel;
 use words::put_called;
-ghost use Rattle.transcript.specs.Transcript.{lent};
+ghost use Rattle.transcript.specs.Transcript.{wasGiven};
+ghost use Rattle.consequence.specs.Window.{windowWasGiven};
 ghost use Rattle.interface.specs.Calls.{CallAnswered};
 
 // The answer as 20 numbers, or the number of the refusal; 1 where `out` does not have 20 elements.
@@ -23,7 +24,10 @@ pub(crate) fn answer_call(
     selenocysteine: &[u64],
     out: &mut [i64],
 ) -> u8
-    ensures { λ r. ⌜ CallAnswered (lent model (now («exon_starts» .entry)) (now («exon_ends» .entry)) (now («seg_phases» .entry)) (now («seg_exons» .entry)) (now («seg_starts» .entry)) (now («seg_ends» .entry)) (now (selenocysteine .entry))) (record { chromosome = «window_chromosome»; first = «window_first»; bytes = now (window .entry) }) call (now (out .entry)) (now (out .exit)) r ⌝ }
+    ensures { λ r.
+        let t = wasGiven model «exon_starts» «exon_ends» «seg_phases» «seg_exons» «seg_starts» «seg_ends» selenocysteine in
+        let w = windowWasGiven «window_chromosome» «window_first» window in
+        ⌜ CallAnswered t w call (now out.entry) (now out.exit) r ⌝ }
 {
     if out.len() != 20 {
         return 1;

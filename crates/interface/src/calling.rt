@@ -3,7 +3,8 @@ use crate::call::answer_call;
 use crate::calls::answer_calls;
 use consequence::Call;
 use words::model_of;
-ghost use Rattle.transcript.specs.Transcript.{lent};
+ghost use Rattle.transcript.specs.Transcript.{wasGiven};
+ghost use Rattle.consequence.specs.Window.{windowWasGiven};
 ghost use Rattle.words.specs.Model.{modelOf};
 ghost use Rattle.interface.specs.Calls.{callOf, CallAnswered, CallsAnswered};
 
@@ -36,7 +37,12 @@ pub extern "C" fn vareffect_call(
     selenocysteine: &[u64],
     out: &mut [i64],
 ) -> u8
-    ensures { λ r. ⌜ CallAnswered (lent (modelOf id «tx_chromosome» minus «exon_count» «tx_start» «tx_end» «has_cds» «cds_start» «cds_end» «start_complete») (now («exon_starts» .entry)) (now («exon_ends» .entry)) (now («seg_phases» .entry)) (now («seg_exons» .entry)) (now («seg_starts» .entry)) (now («seg_ends» .entry)) (now (selenocysteine .entry))) (record { chromosome = «window_chromosome»; first = «window_first»; bytes = now (window .entry) }) (callOf chromosome position «ref_base» «alt_base») (now (out .entry)) (now (out .exit)) r ⌝ }
+    ensures { λ r.
+        let m = modelOf id «tx_chromosome» minus «exon_count» «tx_start» «tx_end» «has_cds» «cds_start» «cds_end» «start_complete» in
+        let t = wasGiven m «exon_starts» «exon_ends» «seg_phases» «seg_exons» «seg_starts» «seg_ends» selenocysteine in
+        let w = windowWasGiven «window_chromosome» «window_first» window in
+        let q = callOf chromosome position «ref_base» «alt_base» in
+        ⌜ CallAnswered t w q (now out.entry) (now out.exit) r ⌝ }
 {
     let model = model_of(
         id,
@@ -102,7 +108,11 @@ pub extern "C" fn vareffect_calls(
     selenocysteine: &[u64],
     out: &mut [i64],
 ) -> u8
-    ensures { λ r. ⌜ CallsAnswered (lent (modelOf id «tx_chromosome» minus «exon_count» «tx_start» «tx_end» «has_cds» «cds_start» «cds_end» «start_complete») (now («exon_starts» .entry)) (now («exon_ends» .entry)) (now («seg_phases» .entry)) (now («seg_exons» .entry)) (now («seg_starts» .entry)) (now («seg_ends» .entry)) (now (selenocysteine .entry))) (record { chromosome = «window_chromosome»; first = «window_first»; bytes = now (window .entry) }) (now (chromosomes .entry)) (now (positions .entry)) (now (refs .entry)) (now (alts .entry)) (now (out .entry)) (now (out .exit)) r ⌝ }
+    ensures { λ r.
+        let m = modelOf id «tx_chromosome» minus «exon_count» «tx_start» «tx_end» «has_cds» «cds_start» «cds_end» «start_complete» in
+        let t = wasGiven m «exon_starts» «exon_ends» «seg_phases» «seg_exons» «seg_starts» «seg_ends» selenocysteine in
+        let w = windowWasGiven «window_chromosome» «window_first» window in
+        ⌜ CallsAnswered t w (now chromosomes.entry) (now positions.entry) (now refs.entry) (now alts.entry) (now out.entry) (now out.exit) r ⌝ }
 {
     let model = model_of(
         id,

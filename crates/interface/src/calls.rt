@@ -10,7 +10,8 @@ use transcript::question::refusal_number;
 use words::calls_fit;
 use words::put_called;
 ghost use mathlib.Core.Path.{_≡_};
-ghost use Rattle.transcript.specs.Transcript.{lent};
+ghost use Rattle.transcript.specs.Transcript.{Transcript, given, wasGiven};
+ghost use Rattle.consequence.specs.Window.{Window, windowGiven, windowWasGiven};
 ghost use mathlib.Core.Bool.{true};
 ghost use Rattle.consequence.specs.Prepared.{Prepared};
 ghost use Rattle.words.specs.Lengths.{callsFit};
@@ -39,9 +40,16 @@ fn put_calls(
     selenocysteine_codons: &[u32; 64],
     out: &mut [i64],
 )
-    requires { ⌜ Prepared (lent model (now «exon_starts») (now «exon_ends») (now «seg_phases») (now «seg_exons») (now «seg_starts») (now «seg_ends») (now selenocysteine)) scalars (now «cumulative_exons») (now «cumulative_cds») (now «selenocysteine_codons») ⌝ }
-    requires { ⌜ callsFit (now chromosomes) (now positions) (now refs) (now alts) (now out) ≡ true ⌝ }
-    ensures { λ _. ⌜ now (out .exit) ≡ callsWords (lent model (now («exon_starts» .entry)) (now («exon_ends» .entry)) (now («seg_phases» .entry)) (now («seg_exons» .entry)) (now («seg_starts» .entry)) (now («seg_ends» .entry)) (now (selenocysteine .entry))) (record { chromosome = «window_chromosome»; first = «window_first»; bytes = now (window .entry) }) (callsOf (now (chromosomes .entry)) (now (positions .entry)) (now (refs .entry)) (now (alts .entry))) ⌝ }
+    ghost { Transcript × Window }
+    requires { λ g.
+        let t = given model «exon_starts» «exon_ends» «seg_phases» «seg_exons» «seg_starts» «seg_ends» selenocysteine in
+        let w = windowGiven «window_chromosome» «window_first» window in
+        ⌜ g ≡ (t, w) ⌝ }
+    requires { λ (t, w). ⌜ Prepared t scalars (now «cumulative_exons») (now «cumulative_cds») (now «selenocysteine_codons») ⌝ }
+    requires { λ _. ⌜ callsFit (now chromosomes) (now positions) (now refs) (now alts) (now out) ≡ true ⌝ }
+    ensures { λ (t, w) _.
+        let calls = callsOf (now chromosomes.entry) (now positions.entry) (now refs.entry) (now alts.entry) in
+        ⌜ now out.exit ≡ callsWords t w calls ⌝ }
 {
     let mut i = 0;
     while i < positions.len() {
@@ -93,7 +101,10 @@ pub(crate) fn answer_calls(
     selenocysteine: &[u64],
     out: &mut [i64],
 ) -> u8
-    ensures { λ r. ⌜ CallsAnswered (lent model (now («exon_starts» .entry)) (now («exon_ends» .entry)) (now («seg_phases» .entry)) (now («seg_exons» .entry)) (now («seg_starts» .entry)) (now («seg_ends» .entry)) (now (selenocysteine .entry))) (record { chromosome = «window_chromosome»; first = «window_first»; bytes = now (window .entry) }) (now (chromosomes .entry)) (now (positions .entry)) (now (refs .entry)) (now (alts .entry)) (now (out .entry)) (now (out .exit)) r ⌝ }
+    ensures { λ r.
+        let t = wasGiven model «exon_starts» «exon_ends» «seg_phases» «seg_exons» «seg_starts» «seg_ends» selenocysteine in
+        let w = windowWasGiven «window_chromosome» «window_first» window in
+        ⌜ CallsAnswered t w (now chromosomes.entry) (now positions.entry) (now refs.entry) (now alts.entry) (now out.entry) (now out.exit) r ⌝ }
 {
     if !calls_fit(chromosomes, positions, refs, alts, out) {
         return 1;

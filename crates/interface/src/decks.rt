@@ -23,7 +23,7 @@ fn fault_of(answer: DeckAnswer) -> u32
 // The number of a deck's refusal and 256 times the record at fault; 0 where the deck is accepted.
 #[no_mangle]
 pub extern "C" fn vareffect_check_deck(bytes: &[u8]) -> u32
-    ensures { λ r. ⌜ r ≡ deckFault (readDeck (now (bytes .entry))) ⌝ }
+    ensures { λ r. ⌜ r ≡ deckFault (readDeck (now bytes.entry)) ⌝ }
 {
     let read = read_deck(bytes);
     let answer = read.answer;
@@ -33,7 +33,7 @@ pub extern "C" fn vareffect_check_deck(bytes: &[u8]) -> u32
 // One id, where the buffer reaches so far. The position behind it.
 fn push_id(ids: &mut [u32], at: usize, id: u32) -> usize
     requires { ⌜ at + 1 < 2 ^ 64 ⌝ }
-    ensures { λ r. ⌜ Pushed (now (ids .entry)) at (id ∷ []) (now (ids .exit)) r ⌝ }
+    ensures { λ r. ⌜ Pushed (now ids.entry) at (id ∷ []) (now ids.exit) r ⌝ }
 {
     if at < ids.len() {
         ids[at] = id;
@@ -43,7 +43,7 @@ fn push_id(ids: &mut [u32], at: usize, id: u32) -> usize
 
 // The ids of the transcripts of a table.
 fn push_ids(kinds: &[u8; 4096], numbers: &[u32; 4096], ids: &mut [u32]) -> usize
-    ensures { λ r. ⌜ Pushed (now (ids .entry)) 0 (map (λ k. getD (now (numbers .entry)) k 0) (rowsFrom 4096 (now (kinds .entry)) 0)) (now (ids .exit)) r × (r ≤ 4096) ⌝ }
+    ensures { λ r. ⌜ Pushed (now ids.entry) 0 (map (λ k. getD (now numbers.entry) k 0) (rowsFrom 4096 (now kinds.entry) 0)) (now ids.exit) r × (r ≤ 4096) ⌝ }
 {
     let mut n = 0;
     let mut k = 0;
@@ -61,8 +61,8 @@ fn push_ids(kinds: &[u8; 4096], numbers: &[u32; 4096], ids: &mut [u32]) -> usize
 // How many transcripts an accepted deck has, 0 of a refused one. Their ids are stored at the front of `ids` as far as it reaches.
 #[no_mangle]
 pub extern "C" fn vareffect_deck_ids(bytes: &[u8], ids: &mut [u32]) -> u32
-    ensures { λ r. ⌜ r ≡ length (deckIds (now (bytes .entry))) ⌝ }
-    ensures { λ _. ⌜ now (ids .exit) ≡ stored (now (ids .entry)) 0 (deckIds (now (bytes .entry))) ⌝ }
+    ensures { λ r. ⌜ r ≡ length (deckIds (now bytes.entry)) ⌝ }
+    ensures { λ _. ⌜ now ids.exit ≡ stored (now ids.entry) 0 (deckIds (now bytes.entry)) ⌝ }
 {
     let read = read_deck(bytes);
     let answer = read.answer;

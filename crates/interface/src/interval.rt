@@ -7,7 +7,7 @@ use footprint::frameshift_intron_endpoint;
 use transcript::TranscriptModel;
 use words::model_of;
 use words::put_interval;
-ghost use Rattle.transcript.specs.Transcript.{lent};
+ghost use Rattle.transcript.specs.Transcript.{wasGiven};
 ghost use Rattle.words.specs.Model.{modelOf};
 ghost use Rattle.interface.specs.Interval.{IntervalAnswered};
 
@@ -26,7 +26,9 @@ fn answer_interval(
     selenocysteine: &[u64],
     out: &mut [i64],
 ) -> u8
-    ensures { λ r. ⌜ IntervalAnswered (lent model (now («exon_starts» .entry)) (now («exon_ends» .entry)) (now («seg_phases» .entry)) (now («seg_exons» .entry)) (now («seg_starts» .entry)) (now («seg_ends» .entry)) (now (selenocysteine .entry))) chromosome start end (now (out .entry)) (now (out .exit)) r ⌝ }
+    ensures { λ r.
+        let t = wasGiven model «exon_starts» «exon_ends» «seg_phases» «seg_exons» «seg_starts» «seg_ends» selenocysteine in
+        ⌜ IntervalAnswered t chromosome start end (now out.entry) (now out.exit) r ⌝ }
 {
     if out.len() != 7 {
         return 1;
@@ -108,7 +110,10 @@ pub extern "C" fn vareffect_interval(
     selenocysteine: &[u64],
     out: &mut [i64],
 ) -> u8
-    ensures { λ r. ⌜ IntervalAnswered (lent (modelOf id «tx_chromosome» minus «exon_count» «tx_start» «tx_end» «has_cds» «cds_start» «cds_end» «start_complete») (now («exon_starts» .entry)) (now («exon_ends» .entry)) (now («seg_phases» .entry)) (now («seg_exons» .entry)) (now («seg_starts» .entry)) (now («seg_ends» .entry)) (now (selenocysteine .entry))) chromosome start end (now (out .entry)) (now (out .exit)) r ⌝ }
+    ensures { λ r.
+        let m = modelOf id «tx_chromosome» minus «exon_count» «tx_start» «tx_end» «has_cds» «cds_start» «cds_end» «start_complete» in
+        let t = wasGiven m «exon_starts» «exon_ends» «seg_phases» «seg_exons» «seg_starts» «seg_ends» selenocysteine in
+        ⌜ IntervalAnswered t chromosome start end (now out.entry) (now out.exit) r ⌝ }
 {
     let model = model_of(
         id,

@@ -5,7 +5,8 @@ use lines::Written;
 use lines::write_called;
 use words::model_of;
 ghost use mathlib.Core.Path.{_≡_};
-ghost use Rattle.transcript.specs.Transcript.{lent};
+ghost use Rattle.transcript.specs.Transcript.{wasGiven};
+ghost use Rattle.consequence.specs.Window.{windowWasGiven};
 ghost use Rattle.footprint.specs.Ranges.{sourceRanges};
 ghost use Rattle.consequence.specs.Call.{annotateSnv};
 ghost use Rattle.lines.specs.Line.{calledLine, writeAnswer, writtenTo};
@@ -52,7 +53,13 @@ pub extern "C" fn vareffect_line(
     selenocysteine: &[u64],
     out: &mut [u8],
 ) -> usize
-    ensures { λ r. ⌜ (r ≡ lengthOr0 (writeAnswer (now (out .entry)) (calledLine number id (annotateSnv sourceRanges (lent (modelOf id «tx_chromosome» minus «exon_count» «tx_start» «tx_end» «has_cds» «cds_start» «cds_end» «start_complete») (now («exon_starts» .entry)) (now («exon_ends» .entry)) (now («seg_phases» .entry)) (now («seg_exons» .entry)) (now («seg_starts» .entry)) (now («seg_ends» .entry)) (now (selenocysteine .entry))) (record { chromosome = «window_chromosome»; first = «window_first»; bytes = now (window .entry) }) (callOf chromosome position «ref_base» «alt_base»))))) × (now (out .exit) ≡ writtenTo (now (out .entry)) (calledLine number id (annotateSnv sourceRanges (lent (modelOf id «tx_chromosome» minus «exon_count» «tx_start» «tx_end» «has_cds» «cds_start» «cds_end» «start_complete») (now («exon_starts» .entry)) (now («exon_ends» .entry)) (now («seg_phases» .entry)) (now («seg_exons» .entry)) (now («seg_starts» .entry)) (now («seg_ends» .entry)) (now (selenocysteine .entry))) (record { chromosome = «window_chromosome»; first = «window_first»; bytes = now (window .entry) }) (callOf chromosome position «ref_base» «alt_base»)))) ⌝ }
+    ensures { λ r.
+        let m = modelOf id «tx_chromosome» minus «exon_count» «tx_start» «tx_end» «has_cds» «cds_start» «cds_end» «start_complete» in
+        let t = wasGiven m «exon_starts» «exon_ends» «seg_phases» «seg_exons» «seg_starts» «seg_ends» selenocysteine in
+        let w = windowWasGiven «window_chromosome» «window_first» window in
+        let q = callOf chromosome position «ref_base» «alt_base» in
+        let line = calledLine number id (annotateSnv sourceRanges t w q) in
+        ⌜ (r ≡ lengthOr0 (writeAnswer (now out.entry) line)) × (now out.exit ≡ writtenTo (now out.entry) line) ⌝ }
 {
     let model = model_of(
         id,

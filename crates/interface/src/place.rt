@@ -3,7 +3,7 @@ use locate::Located;
 use locate::locate_variant;
 use transcript::TranscriptModel;
 use words::put_located;
-ghost use Rattle.transcript.specs.Transcript.{lent};
+ghost use Rattle.transcript.specs.Transcript.{wasGiven};
 ghost use Rattle.interface.specs.Left.{PlaceAnswered};
 
 // The place of [start, end) as 8 numbers, or the number of the refusal; 1 where `out` does not have 8 elements.
@@ -21,7 +21,9 @@ pub(crate) fn answer_place(
     selenocysteine: &[u64],
     out: &mut [i64],
 ) -> u8
-    ensures { λ r. ⌜ PlaceAnswered (lent model (now («exon_starts» .entry)) (now («exon_ends» .entry)) (now («seg_phases» .entry)) (now («seg_exons» .entry)) (now («seg_starts» .entry)) (now («seg_ends» .entry)) (now (selenocysteine .entry))) chromosome start end (now (out .entry)) (now (out .exit)) r ⌝ }
+    ensures { λ r.
+        let t = wasGiven model «exon_starts» «exon_ends» «seg_phases» «seg_exons» «seg_starts» «seg_ends» selenocysteine in
+        ⌜ PlaceAnswered t chromosome start end (now out.entry) (now out.exit) r ⌝ }
 {
     if out.len() != 8 {
         return 1;

@@ -9,7 +9,7 @@ use transcript::question::refusal_number;
 use words::put_located;
 ghost use mathlib.Core.Path.{_≡_};
 ghost use lib.ListN.{length};
-ghost use Rattle.transcript.specs.Transcript.{lent};
+ghost use Rattle.transcript.specs.Transcript.{Transcript, given, wasGiven};
 ghost use Prim.Native.Nat.{_*_};
 ghost use Rattle.interface.specs.Ready.{Ready};
 ghost use Rattle.interface.specs.Lists.{placesWords, PlacesAnswered};
@@ -30,9 +30,11 @@ fn put_places(
     cumulative_exons: &[u32],
     out: &mut [i64],
 )
-    requires { ⌜ Ready (lent model (now «exon_starts») (now «exon_ends») (now «seg_phases») (now «seg_exons») (now «seg_starts») (now «seg_ends») (now selenocysteine)) scalars (now «cumulative_exons») ⌝ }
-    requires { ⌜ length (now out) ≡ 8 * length (now positions) ⌝ }
-    ensures { λ _. ⌜ now (out .exit) ≡ placesWords (lent model (now («exon_starts» .entry)) (now («exon_ends» .entry)) (now («seg_phases» .entry)) (now («seg_exons» .entry)) (now («seg_starts» .entry)) (now («seg_ends» .entry)) (now (selenocysteine .entry))) chromosome (now (positions .entry)) ⌝ }
+    ghost { Transcript }
+    requires { λ t. ⌜ t ≡ given model «exon_starts» «exon_ends» «seg_phases» «seg_exons» «seg_starts» «seg_ends» selenocysteine ⌝ }
+    requires { λ t. ⌜ Ready t scalars (now «cumulative_exons») ⌝ }
+    requires { λ _. ⌜ length (now out) ≡ 8 * length (now positions) ⌝ }
+    ensures { λ t _. ⌜ now out.exit ≡ placesWords t chromosome (now positions.entry) ⌝ }
 {
     let mut i = 0;
     while i < positions.len() {
@@ -70,7 +72,9 @@ pub(crate) fn answer_places(
     selenocysteine: &[u64],
     out: &mut [i64],
 ) -> u8
-    ensures { λ r. ⌜ PlacesAnswered (lent model (now («exon_starts» .entry)) (now («exon_ends» .entry)) (now («seg_phases» .entry)) (now («seg_exons» .entry)) (now («seg_starts» .entry)) (now («seg_ends» .entry)) (now (selenocysteine .entry))) chromosome (now (positions .entry)) (now (out .entry)) (now (out .exit)) r ⌝ }
+    ensures { λ r.
+        let t = wasGiven model «exon_starts» «exon_ends» «seg_phases» «seg_exons» «seg_starts» «seg_ends» selenocysteine in
+        ⌜ PlacesAnswered t chromosome (now positions.entry) (now out.entry) (now out.exit) r ⌝ }
 {
     if out.len() % 8 != 0 {
         return 1;

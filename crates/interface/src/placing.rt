@@ -2,7 +2,7 @@
 use crate::place::answer_place;
 use crate::places::answer_places;
 use words::model_of;
-ghost use Rattle.transcript.specs.Transcript.{lent};
+ghost use Rattle.transcript.specs.Transcript.{wasGiven};
 ghost use Rattle.words.specs.Model.{modelOf};
 ghost use Rattle.interface.specs.Left.{PlaceAnswered};
 ghost use Rattle.interface.specs.Lists.{PlacesAnswered};
@@ -32,7 +32,10 @@ pub extern "C" fn vareffect_place(
     selenocysteine: &[u64],
     out: &mut [i64],
 ) -> u8
-    ensures { λ r. ⌜ PlaceAnswered (lent (modelOf id «tx_chromosome» minus «exon_count» «tx_start» «tx_end» «has_cds» «cds_start» «cds_end» «start_complete») (now («exon_starts» .entry)) (now («exon_ends» .entry)) (now («seg_phases» .entry)) (now («seg_exons» .entry)) (now («seg_starts» .entry)) (now («seg_ends» .entry)) (now (selenocysteine .entry))) chromosome start end (now (out .entry)) (now (out .exit)) r ⌝ }
+    ensures { λ r.
+        let m = modelOf id «tx_chromosome» minus «exon_count» «tx_start» «tx_end» «has_cds» «cds_start» «cds_end» «start_complete» in
+        let t = wasGiven m «exon_starts» «exon_ends» «seg_phases» «seg_exons» «seg_starts» «seg_ends» selenocysteine in
+        ⌜ PlaceAnswered t chromosome start end (now out.entry) (now out.exit) r ⌝ }
 {
     let model = model_of(
         id,
@@ -86,7 +89,10 @@ pub extern "C" fn vareffect_places(
     selenocysteine: &[u64],
     out: &mut [i64],
 ) -> u8
-    ensures { λ r. ⌜ PlacesAnswered (lent (modelOf id «tx_chromosome» minus «exon_count» «tx_start» «tx_end» «has_cds» «cds_start» «cds_end» «start_complete») (now («exon_starts» .entry)) (now («exon_ends» .entry)) (now («seg_phases» .entry)) (now («seg_exons» .entry)) (now («seg_starts» .entry)) (now («seg_ends» .entry)) (now (selenocysteine .entry))) chromosome (now (positions .entry)) (now (out .entry)) (now (out .exit)) r ⌝ }
+    ensures { λ r.
+        let m = modelOf id «tx_chromosome» minus «exon_count» «tx_start» «tx_end» «has_cds» «cds_start» «cds_end» «start_complete» in
+        let t = wasGiven m «exon_starts» «exon_ends» «seg_phases» «seg_exons» «seg_starts» «seg_ends» selenocysteine in
+        ⌜ PlacesAnswered t chromosome (now positions.entry) (now out.entry) (now out.exit) r ⌝ }
 {
     let model = model_of(
         id,

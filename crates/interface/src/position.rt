@@ -5,7 +5,7 @@ use locate::place::place_of_base;
 use transcript::TranscriptModel;
 use transcript::question::base_of;
 ghost use mathlib.Core.Path.{_≡_};
-ghost use Rattle.transcript.specs.Transcript.{lent};
+ghost use Rattle.transcript.specs.Transcript.{Transcript, given};
 ghost use Rattle.footprint.specs.Ranges.{sourceRanges};
 ghost use Rattle.locate.specs.Query.{locatePosition};
 ghost use Rattle.interface.specs.Ready.{Ready};
@@ -28,8 +28,10 @@ pub(crate) fn locate_position(
     scalars: IndexScalars,
     cumulative_exons: &[u32],
 ) -> Located
-    requires { ⌜ Ready (lent model (now «exon_starts») (now «exon_ends») (now «seg_phases») (now «seg_exons») (now «seg_starts») (now «seg_ends») (now selenocysteine)) scalars (now «cumulative_exons») ⌝ }
-    ensures { λ r. ⌜ r ≡ locatePosition sourceRanges (lent model (now («exon_starts» .entry)) (now («exon_ends» .entry)) (now («seg_phases» .entry)) (now («seg_exons» .entry)) (now («seg_starts» .entry)) (now («seg_ends» .entry)) (now (selenocysteine .entry))) chromosome p ⌝ }
+    ghost { Transcript }
+    requires { λ t. ⌜ t ≡ given model «exon_starts» «exon_ends» «seg_phases» «seg_exons» «seg_starts» «seg_ends» selenocysteine ⌝ }
+    requires { λ t. ⌜ Ready t scalars (now «cumulative_exons») ⌝ }
+    ensures { λ t r. ⌜ r ≡ locatePosition sourceRanges t chromosome p ⌝ }
 {
     if QUERY_LIMIT <= p {
         return Located::Refused(15);

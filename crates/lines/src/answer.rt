@@ -17,7 +17,7 @@ ghost use Rattle.lines.specs.Line.{answerLine, writeAnswer, writtenTo, f
 
 // Line number, id, 0 and place, a space behind each.
 fn push_front(out: &mut [u8], number: u64, id: u64, kind: u8) -> usize
-    ensures { λ r. ⌜ Pushed (now (out .entry)) 0 (frontColumns number id kind) (now (out .exit)) r ⌝ }
+    ensures { λ r. ⌜ Pushed (now out.entry) 0 (frontColumns number id kind) (now out.exit) r ⌝ }
     ensures { λ r. ⌜ r ≤ 100 ⌝ }
 {
     let a = push_number(out, 0, number, 32);
@@ -30,7 +30,7 @@ fn push_front(out: &mut [u8], number: u64, id: u64, kind: u8) -> usize
 // Exon, intron, CDS position, cDNA position and codon number, a space behind each.
 fn push_numbers(out: &mut [u8], at: usize, x: ConsequenceResult) -> usize
     requires { ⌜ at + 160 < 2 ^ 64 ⌝ }
-    ensures { λ r. ⌜ Pushed (now (out .entry)) at (numberColumns x) (now (out .exit)) r ⌝ }
+    ensures { λ r. ⌜ Pushed (now out.entry) at (numberColumns x) (now out.exit) r ⌝ }
     ensures { λ r. ⌜ r ≤ at + 160 ⌝ }
 {
     let exon = x.exon;
@@ -53,7 +53,7 @@ fn push_numbers(out: &mut [u8], at: usize, x: ConsequenceResult) -> usize
 // Codons, letters and terms, with the newline.
 fn push_back(out: &mut [u8], at: usize, x: ConsequenceResult) -> usize
     requires { ⌜ at + 2100 < 2 ^ 64 ⌝ }
-    ensures { λ r. ⌜ Pushed (now (out .entry)) at (backColumns x) (now (out .exit)) r ⌝ }
+    ensures { λ r. ⌜ Pushed (now out.entry) at (backColumns x) (now out.exit) r ⌝ }
     ensures { λ r. ⌜ r ≤ at + 1293 ⌝ }
 {
     let codons = x.codons;
@@ -69,7 +69,7 @@ fn push_back(out: &mut [u8], at: usize, x: ConsequenceResult) -> usize
 
 // The line of an answered call at the buffer's start, as far as that reaches; the line's length.
 fn push_answer(out: &mut [u8], number: u64, id: u64, x: ConsequenceResult) -> usize
-    ensures { λ r. ⌜ Pushed (now (out .entry)) 0 (answerLine number id x) (now (out .exit)) r ⌝ }
+    ensures { λ r. ⌜ Pushed (now out.entry) 0 (answerLine number id x) (now out.exit) r ⌝ }
     ensures { λ r. ⌜ r ≤ 1553 ⌝ }
 {
     let location = x.location;
@@ -81,7 +81,7 @@ fn push_answer(out: &mut [u8], number: u64, id: u64, x: ConsequenceResult) -> us
 
 // The line of an answered call in a buffer of any length: measured first, then put, or 28.
 fn write_measured(out: &mut [u8], number: u64, id: u64, x: ConsequenceResult) -> Written
-    ensures { λ r. ⌜ (r ≡ writeAnswer (now (out .entry)) (answerLine number id x)) × (now (out .exit) ≡ writtenTo (now (out .entry)) (answerLine number id x)) ⌝ }
+    ensures { λ r. ⌜ (r ≡ writeAnswer (now out.entry) (answerLine number id x)) × (now out.exit ≡ writtenTo (now out.entry) (answerLine number id x)) ⌝ }
 {
     let n = push_answer(&mut out[..0], number, id, x);
     if out.len() < n {
@@ -93,7 +93,7 @@ fn write_measured(out: &mut [u8], number: u64, id: u64, x: ConsequenceResult) ->
 
 // The line of an answered call, or 28 where it does not fit. No line has over 1553 bytes.
 pub fn write_answer(out: &mut [u8], number: u64, id: u64, x: ConsequenceResult) -> Written
-    ensures { λ r. ⌜ (r ≡ writeAnswer (now (out .entry)) (answerLine number id x)) × (now (out .exit) ≡ writtenTo (now (out .entry)) (answerLine number id x)) ⌝ }
+    ensures { λ r. ⌜ (r ≡ writeAnswer (now out.entry) (answerLine number id x)) × (now out.exit ≡ writtenTo (now out.entry) (answerLine number id x)) ⌝ }
 {
     if out.len() < 1553 {
         return write_measured(out, number, id, x);

@@ -19,7 +19,7 @@ ghost use Rattle.lines.specs.Line.{numbered, counted, behind, termList};
 // k/n, `-` for absent.
 pub(crate) fn push_numbered(out: &mut [u8], at: usize, n: Numbered) -> usize
     requires { ⌜ at + 41 < 2 ^ 64 ⌝ }
-    ensures { λ r. ⌜ Pushed (now (out .entry)) at (numbered n) (now (out .exit)) r ⌝ }
+    ensures { λ r. ⌜ Pushed (now out.entry) at (numbered n) (now out.exit) r ⌝ }
     ensures { λ r. ⌜ r ≤ at + 41 ⌝ }
 {
     match n {
@@ -34,7 +34,7 @@ pub(crate) fn push_numbered(out: &mut [u8], at: usize, n: Numbered) -> usize
 
 pub(crate) fn push_counted(out: &mut [u8], at: usize, n: Counted) -> usize
     requires { ⌜ at + 20 < 2 ^ 64 ⌝ }
-    ensures { λ r. ⌜ Pushed (now (out .entry)) at (counted n) (now (out .exit)) r ⌝ }
+    ensures { λ r. ⌜ Pushed (now out.entry) at (counted n) (now out.exit) r ⌝ }
     ensures { λ r. ⌜ r ≤ at + 20 ⌝ }
 {
     match n {
@@ -59,7 +59,7 @@ fn lower(b: u8) -> u8
 // The base at place i, as it stands where it is the changed one.
 fn push_shown(out: &mut [u8], at: usize, place: u8, i: u8, b: u8) -> usize
     requires { ⌜ at + 1 < 2 ^ 64 ⌝ }
-    ensures { λ r. ⌜ Pushed (now (out .entry)) at (shown place i b ∷ []) (now (out .exit)) r ⌝ }
+    ensures { λ r. ⌜ Pushed (now out.entry) at (shown place i b ∷ []) (now out.exit) r ⌝ }
 {
     if i == place {
         return push_byte(out, at, b);
@@ -69,7 +69,7 @@ fn push_shown(out: &mut [u8], at: usize, place: u8, i: u8, b: u8) -> usize
 
 fn push_codon(out: &mut [u8], at: usize, c: Codon, place: u8) -> usize
     requires { ⌜ at + 3 < 2 ^ 64 ⌝ }
-    ensures { λ r. ⌜ Pushed (now (out .entry)) at (formatCodon c place) (now (out .exit)) r ⌝ }
+    ensures { λ r. ⌜ Pushed (now out.entry) at (formatCodon c place) (now out.exit) r ⌝ }
 {
     if c.len == 0 {
         return at;
@@ -88,7 +88,7 @@ fn push_codon(out: &mut [u8], at: usize, c: Codon, place: u8) -> usize
 // Reference codon, slash, altered codon.
 pub(crate) fn push_codons(out: &mut [u8], at: usize, c: Codons) -> usize
     requires { ⌜ at + 7 < 2 ^ 64 ⌝ }
-    ensures { λ r. ⌜ Pushed (now (out .entry)) at (formatCodons c) (now (out .exit)) r ⌝ }
+    ensures { λ r. ⌜ Pushed (now out.entry) at (formatCodons c) (now out.exit) r ⌝ }
     ensures { λ r. ⌜ r ≤ at + 7 ⌝ }
 {
     match c {
@@ -107,7 +107,7 @@ pub(crate) fn push_codons(out: &mut [u8], at: usize, c: Codons) -> usize
 
 pub(crate) fn push_letters(out: &mut [u8], at: usize, a: AminoAcids) -> usize
     requires { ⌜ at + 3 < 2 ^ 64 ⌝ }
-    ensures { λ r. ⌜ Pushed (now (out .entry)) at (formatAminoAcids a) (now (out .exit)) r ⌝ }
+    ensures { λ r. ⌜ Pushed (now out.entry) at (formatAminoAcids a) (now out.exit) r ⌝ }
     ensures { λ r. ⌜ r ≤ at + 3 ⌝ }
 {
     match a {
@@ -124,7 +124,7 @@ pub(crate) fn push_letters(out: &mut [u8], at: usize, a: AminoAcids) -> usize
 // The name of one more term, behind a comma unless it is the first.
 fn push_next(out: &mut [u8], at: usize, first: bool, rank: u32) -> usize
     requires { ⌜ at + 65 < 2 ^ 64 ⌝ }
-    ensures { λ r. ⌜ Pushed (now (out .entry)) at (behind first (termName rank)) (now (out .exit)) r ⌝ }
+    ensures { λ r. ⌜ Pushed (now out.entry) at (behind first (termName rank)) (now out.exit) r ⌝ }
 {
     if first {
         return push_name(out, at, rank);
@@ -136,7 +136,7 @@ fn push_next(out: &mut [u8], at: usize, first: bool, rank: u32) -> usize
 // The names of the terms from the lowest bit on, with commas between.
 pub(crate) fn push_terms(out: &mut [u8], at: usize, set: TermSet) -> usize
     requires { ⌜ at + 2048 < 2 ^ 64 ⌝ }
-    ensures { λ r. ⌜ Pushed (now (out .entry)) at (termList (set .0)) (now (out .exit)) r ⌝ }
+    ensures { λ r. ⌜ Pushed (now out.entry) at (termList (set .0)) (now out.exit) r ⌝ }
     ensures { λ r. ⌜ r ≤ at + 1280 ⌝ }
 {
     let mut rest = set;

@@ -12,7 +12,7 @@ ghost use Rattle.lines.specs.Line.{refusalLine, writeAnswer, writtenTo};
 // A number and the byte behind it.
 pub(crate) fn push_number(out: &mut [u8], at: usize, n: u64, end: u8) -> usize
     requires { ⌜ at + 21 < 2 ^ 64 ⌝ }
-    ensures { λ r. ⌜ Pushed (now (out .entry)) at (decimal n ++ (end ∷ [])) (now (out .exit)) r ⌝ }
+    ensures { λ r. ⌜ Pushed (now out.entry) at (decimal n ++ (end ∷ [])) (now out.exit) r ⌝ }
     ensures { λ r. ⌜ r ≤ at + 21 ⌝ }
 {
     let to = push_decimal(out, at, n);
@@ -21,7 +21,7 @@ pub(crate) fn push_number(out: &mut [u8], at: usize, n: u64, end: u8) -> usize
 
 // The line of a refusal at the buffer's start, as far as that reaches; the line's length.
 fn push_refusal(out: &mut [u8], a: u64, b: u64, c: u64) -> usize
-    ensures { λ r. ⌜ Pushed (now (out .entry)) 0 (refusalLine a b c) (now (out .exit)) r ⌝ }
+    ensures { λ r. ⌜ Pushed (now out.entry) 0 (refusalLine a b c) (now out.exit) r ⌝ }
     ensures { λ r. ⌜ r ≤ 63 ⌝ }
 {
     let second = push_number(out, 0, a, 32);
@@ -31,7 +31,7 @@ fn push_refusal(out: &mut [u8], a: u64, b: u64, c: u64) -> usize
 
 // The line of a refusal in a buffer of any length: measured first, then put, or 28.
 fn write_measured(out: &mut [u8], a: u64, b: u64, c: u64) -> Written
-    ensures { λ r. ⌜ (r ≡ writeAnswer (now (out .entry)) (refusalLine a b c)) × (now (out .exit) ≡ writtenTo (now (out .entry)) (refusalLine a b c)) ⌝ }
+    ensures { λ r. ⌜ (r ≡ writeAnswer (now out.entry) (refusalLine a b c)) × (now out.exit ≡ writtenTo (now out.entry) (refusalLine a b c)) ⌝ }
 {
     let n = push_refusal(&mut out[..0], a, b, c);
     if out.len() < n {
@@ -43,7 +43,7 @@ fn write_measured(out: &mut [u8], a: u64, b: u64, c: u64) -> Written
 
 // The line of a refusal, or 28 where it does not fit. No such line has over 63 bytes.
 pub fn write_refusal(out: &mut [u8], a: u64, b: u64, c: u64) -> Written
-    ensures { λ r. ⌜ (r ≡ writeAnswer (now (out .entry)) (refusalLine a b c)) × (now (out .exit) ≡ writtenTo (now (out .entry)) (refusalLine a b c)) ⌝ }
+    ensures { λ r. ⌜ (r ≡ writeAnswer (now out.entry) (refusalLine a b c)) × (now out.exit ≡ writtenTo (now out.entry) (refusalLine a b c)) ⌝ }
 {
     if out.len() < 63 {
         return write_measured(out, a, b, c);

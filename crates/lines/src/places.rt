@@ -74,7 +74,7 @@ const PLACE_ENDS: [u16; 14] = [0, 8, 18, 24, 36, 43, 56, 67, 81, 93, 99, 115, 12
 // The Rust name of the place of a kind.
 pub(crate) fn push_place(out: &mut [u8], at: usize, kind: u8) -> usize
     requires { ⌜ at + 64 < 2 ^ 64 ⌝ }
-    ensures { λ r. ⌜ Pushed (now (out .entry)) at (placeText kind) (now (out .exit)) r ⌝ }
+    ensures { λ r. ⌜ Pushed (now out.entry) at (placeText kind) (now out.exit) r ⌝ }
     ensures { λ r. ⌜ r ≤ at + 16 ⌝ }
 {
     if 12 < kind {

@@ -11,6 +11,7 @@ use deck::rows::Rows;
 use deck::rows::model_in;
 ghost use mathlib.Core.Path.{_≡_};
 ghost use Rattle.footprint.specs.Ranges.{sourceRanges};
+ghost use Rattle.consequence.specs.Window.{windowWasGiven};
 ghost use Rattle.consequence.specs.Call.{annotateSnv};
 ghost use Rattle.deck.specs.Table.{InOrder, transcriptIn};
 
@@ -29,7 +30,10 @@ pub(crate) fn call_at(
     rows: Rows,
 ) -> Called
     requires { ⌜ InOrder k rows ⌝ }
-    ensures { λ r. ⌜ r ≡ annotateSnv sourceRanges (transcriptIn (now (marks .entry)) (now (ids .entry)) (now (numbers .entry)) (now (starts .entry)) (now (ends .entry)) k rows) (record { chromosome = «window_chromosome»; first = «window_first»; bytes = now (window .entry) }) call ⌝ }
+    ensures { λ r.
+        let t = transcriptIn (now marks.entry) (now ids.entry) (now numbers.entry) (now starts.entry) (now ends.entry) k rows in
+        let w = windowWasGiven «window_chromosome» «window_first» window in
+        ⌜ r ≡ annotateSnv sourceRanges t w call ⌝ }
 {
     annotate_snv(
         window_chromosome,

@@ -13,7 +13,7 @@ ghost use Rattle.listing.specs.Opening.{notOpened, opened};
 
 // 27: window file under 10 or over 65,536 bytes, call file over 65,536 bytes.
 fn bad_files(window: &[u8], calls: &[u8]) -> bool
-    ensures { λ r. ⌜ r ≡ (badWindowFile (now (window .entry)) || badCallFile (now (calls .entry))) ⌝ }
+    ensures { λ r. ⌜ r ≡ (badWindowFile (now window.entry) || badCallFile (now calls.entry)) ⌝ }
 {
     if window.len() < 10 {
         return true;
@@ -37,7 +37,7 @@ fn not_opened(record: u16, number: u8, table: DeckTable) -> Opened
 
 // The deck's table and the window's two numbers, or the refusal.
 pub fn open_listing(deck: &[u8], window: &[u8], calls: &[u8]) -> Opened
-    ensures { λ r. ⌜ r ≡ opened (now (deck .entry)) (now (window .entry)) (now (calls .entry)) ⌝ }
+    ensures { λ r. ⌜ r ≡ opened (now deck.entry) (now window.entry) (now calls.entry) ⌝ }
 {
     let read = read_deck(deck);
     let answer = read.answer;

@@ -16,7 +16,7 @@ pub enum Asked {
 
 // The line of the calls at the cursor.
 pub fn asked_at(calls: &[u8], cursor: Cursor) -> Asked
-    ensures { λ r. ⌜ r ≡ askedAt (now (calls .entry)) cursor ⌝ }
+    ensures { λ r. ⌜ r ≡ askedAt (now calls.entry) cursor ⌝ }
 {
     let at = cursor.at;
     let number = cursor.number;

@@ -10,13 +10,14 @@ use lines::Written;
 use lines::line::write_refusal;
 use lines::write_called;
 ghost use mathlib.Core.Path.{_≡_};
-ghost use Rattle.deck.specs.Table.{isKind, rowsAt};
+ghost use Rattle.deck.specs.Table.{isKind, rowsAt, tableWasGiven};
+ghost use Rattle.consequence.specs.Window.{windowWasGiven};
 ghost use Rattle.lines.specs.Line.{refusalLine};
 ghost use Rattle.listing.specs.Steps.{line, behindTranscript, nextCalled, nextLine, listed, listedAs, listedTo, Advances};
 
 // Whether a transcript stands at a row.
 pub fn is_transcript(kinds: &[u8; 4096], row: usize) -> bool
-    ensures { λ r. ⌜ r ≡ isKind (now (kinds .entry)) 1 row ⌝ }
+    ensures { λ r. ⌜ r ≡ isKind (now kinds.entry) 1 row ⌝ }
 {
     if row < 4096 {
         return kinds[row] == 1;
@@ -26,7 +27,7 @@ pub fn is_transcript(kinds: &[u8; 4096], row: usize) -> bool
 
 // The next transcript for the same call, at row `to`, or what stands behind the call's line.
 pub fn behind_transcript(kinds: &[u8; 4096], to: usize, cursor: Cursor, behind: Cursor) -> Cursor
-    ensures { λ r. ⌜ (to ≡ rowsAt (now (kinds .entry)) (cursor .row) .bases → r ≡ behindTranscript (now (kinds .entry)) cursor behind) ⌝ }
+    ensures { λ r. ⌜ (to ≡ rowsAt (now kinds.entry) (cursor .row) .bases → r ≡ behindTranscript (now kinds.entry) cursor behind) ⌝ }
 {
     if is_transcript(kinds, to) {
         return Cursor {
@@ -50,7 +51,9 @@ pub fn line_listed(w: Written, next: Cursor) -> Listed
 
 // The line of a malformed line of the calls.
 pub fn malformed_line(out: &mut [u8], number: u64, behind: Cursor) -> Listed
-    ensures { λ r. ⌜ (r ≡ listedAs (now (out .entry)) (line (refusalLine number 0 26) behind)) × (now (out .exit) ≡ listedTo (now (out .entry)) (line (refusalLine number 0 26) behind)) ⌝ }
+    ensures { λ r.
+        let next = line (refusalLine number 0 26) behind in
+        ⌜ (r ≡ listedAs (now out.entry) next) × (now out.exit ≡ listedTo (now out.entry) next) ⌝ }
 {
     let written = write_refusal(out, number, 0, 26);
     line_listed(written, behind)
@@ -72,7 +75,11 @@ pub fn next_called(
     behind: Cursor,
     out: &mut [u8],
 ) -> Listed
-    ensures { λ r. ⌜ (r ≡ listedAs (now (out .entry)) (nextCalled (record { kinds = now (kinds .entry); marks = now (marks .entry); ids = now (ids .entry); numbers = now (numbers .entry); starts = now (starts .entry); ends = now (ends .entry) }) (record { chromosome = «window_chromosome»; first = «window_first»; bytes = now (window .entry) }) cursor behind call)) × (now (out .exit) ≡ listedTo (now (out .entry)) (nextCalled (record { kinds = now (kinds .entry); marks = now (marks .entry); ids = now (ids .entry); numbers = now (numbers .entry); starts = now (starts .entry); ends = now (ends .entry) }) (record { chromosome = «window_chromosome»; first = «window_first»; bytes = now (window .entry) }) cursor behind call)) ⌝ }
+    ensures { λ r.
+        let d = tableWasGiven kinds marks ids numbers starts ends in
+        let w = windowWasGiven «window_chromosome» «window_first» window in
+        let next = nextCalled d w cursor behind call in
+        ⌜ (r ≡ listedAs (now out.entry) next) × (now out.exit ≡ listedTo (now out.entry) next) ⌝ }
 {
     let row = cursor.row;
     if !is_transcript(kinds, row) {
@@ -112,8 +119,12 @@ pub fn next_line(
     cursor: Cursor,
     out: &mut [u8],
 ) -> Listed
-    ensures { λ r. ⌜ (r ≡ listedAs (now (out .entry)) (nextLine (record { kinds = now (kinds .entry); marks = now (marks .entry); ids = now (ids .entry); numbers = now (numbers .entry); starts = now (starts .entry); ends = now (ends .entry) }) (record { chromosome = «window_chromosome»; first = «window_first»; bytes = now (window .entry) }) (now (calls .entry)) cursor)) × (now (out .exit) ≡ listedTo (now (out .entry)) (nextLine (record { kinds = now (kinds .entry); marks = now (marks .entry); ids = now (ids .entry); numbers = now (numbers .entry); starts = now (starts .entry); ends = now (ends .entry) }) (record { chromosome = «window_chromosome»; first = «window_first»; bytes = now (window .entry) }) (now (calls .entry)) cursor)) ⌝ }
-    ensures { λ r. ⌜ Advances (now (calls .entry)) cursor (now (out .entry)) r ⌝ }
+    ensures { λ r.
+        let d = tableWasGiven kinds marks ids numbers starts ends in
+        let w = windowWasGiven «window_chromosome» «window_first» window in
+        let next = nextLine d w (now calls.entry) cursor in
+        ⌜ (r ≡ listedAs (now out.entry) next) × (now out.exit ≡ listedTo (now out.entry) next) ⌝ }
+    ensures { λ r. ⌜ Advances (now calls.entry) cursor (now out.entry) r ⌝ }
 {
     let asked = asked_at(calls, cursor);
     match asked {

@@ -21,7 +21,7 @@ ghost use Prim.Native.Nat.{_≤_};
 ghost use lib.ListN.{length};
 ghost use Rattle.transcript.specs.Limits.{top};
 ghost use Rattle.footprint.specs.Ranges.{sourceRanges};
-ghost use Rattle.transcript.specs.Transcript.{lent};
+ghost use Rattle.transcript.specs.Transcript.{Transcript, given};
 ghost use Rattle.transcript.specs.Orient.{interval, oriented};
 ghost use Rattle.transcript.specs.Admission.{admission};
 ghost use Rattle.locate.specs.Place.{isExonicSpliceRegion, exonic, locate};
@@ -42,9 +42,13 @@ pub(crate) fn exon_alone(
     end: u64,
     p: u64,
 ) -> VariantLocation
-    requires { ⌜ admission (lent model (now «exon_starts») (now «exon_ends») (now «seg_phases») (now «seg_exons») (now «seg_starts») (now «seg_ends») (now selenocysteine)) ≡ 0 ⌝ }
-    requires { ⌜ Holds (oriented (lent model (now «exon_starts») (now «exon_ends») (now «seg_phases») (now «seg_exons») (now «seg_starts») (now «seg_ends») (now selenocysteine))) i start end p ⌝ }
-    ensures { λ r. ⌜ r ≡ exonic (oriented (lent model (now («exon_starts» .entry)) (now («exon_ends» .entry)) (now («seg_phases» .entry)) (now («seg_exons» .entry)) (now («seg_starts» .entry)) (now («seg_ends» .entry)) (now (selenocysteine .entry)))) p i (isExonicSpliceRegion (length (oriented (lent model (now («exon_starts» .entry)) (now («exon_ends» .entry)) (now («seg_phases» .entry)) (now («seg_exons» .entry)) (now («seg_starts» .entry)) (now («seg_ends» .entry)) (now (selenocysteine .entry))) .exons)) i (interval start end) p) ⌝ }
+    ghost { Transcript }
+    requires { λ t. ⌜ t ≡ given model «exon_starts» «exon_ends» «seg_phases» «seg_exons» «seg_starts» «seg_ends» selenocysteine ⌝ }
+    requires { λ t. ⌜ admission t ≡ 0 ⌝ }
+    requires { λ t. ⌜ Holds (oriented t) i start end p ⌝ }
+    ensures { λ t r.
+        let mark = isExonicSpliceRegion (length (oriented t .exons)) i (interval start end) p in
+        ⌜ r ≡ exonic (oriented t) p i mark ⌝ }
 {
     let mark = is_exonic_splice_region(exon_starts.len(), i, start, end, p);
     let count = seg_starts.len();
@@ -92,9 +96,11 @@ pub(crate) fn place_alone(
     selenocysteine: &[u64],
     p: u64,
 ) -> VariantLocation
-    requires { ⌜ admission (lent model (now «exon_starts») (now «exon_ends») (now «seg_phases») (now «seg_exons») (now «seg_starts») (now «seg_ends») (now selenocysteine)) ≡ 0 ⌝ }
-    requires { ⌜ p ≤ top ⌝ }
-    ensures { λ r. ⌜ r ≡ locate sourceRanges (oriented (lent model (now («exon_starts» .entry)) (now («exon_ends» .entry)) (now («seg_phases» .entry)) (now («seg_exons» .entry)) (now («seg_starts» .entry)) (now («seg_ends» .entry)) (now (selenocysteine .entry)))) p ⌝ }
+    ghost { Transcript }
+    requires { λ t. ⌜ t ≡ given model «exon_starts» «exon_ends» «seg_phases» «seg_exons» «seg_starts» «seg_ends» selenocysteine ⌝ }
+    requires { λ t. ⌜ admission t ≡ 0 ⌝ }
+    requires { λ _. ⌜ p ≤ top ⌝ }
+    ensures { λ t r. ⌜ r ≡ locate sourceRanges (oriented t) p ⌝ }
 {
     let strand = model.strand;
     let s = model.tx_start;

@@ -7,7 +7,7 @@ use transcript::Admission;
 use transcript::TranscriptModel;
 use transcript::admit;
 ghost use mathlib.Core.Path.{_≡_};
-ghost use Rattle.transcript.specs.Transcript.{lent};
+ghost use Rattle.transcript.specs.Transcript.{wasGiven};
 ghost use Rattle.locate.specs.Index.{noIndex, indexed};
 
 // The index of a transcript that is refused.
@@ -45,7 +45,9 @@ impl LocateIndex {
         seg_ends: &[u64],
         selenocysteine: &[u64],
     ) -> Indexed
-        ensures { λ r. ⌜ r ≡ indexed (lent model (now («exon_starts» .entry)) (now («exon_ends» .entry)) (now («seg_phases» .entry)) (now («seg_exons» .entry)) (now («seg_starts» .entry)) (now («seg_ends» .entry)) (now (selenocysteine .entry))) ⌝ }
+        ensures { λ r.
+            let t = wasGiven model «exon_starts» «exon_ends» «seg_phases» «seg_exons» «seg_starts» «seg_ends» selenocysteine in
+            ⌜ r ≡ indexed t ⌝ }
     {
         let admission = admit(
             model,

@@ -25,7 +25,7 @@ pub(crate) fn is_exonic_splice_region(n: usize, i: usize, start: u64, end: u64, 
 
 // The first exon index, 0 where there is none.
 pub(crate) fn first_index(indexes: &[u16]) -> u16
-    ensures { λ r. ⌜ r ≡ headOf (now (indexes .entry)) ⌝ }
+    ensures { λ r. ⌜ r ≡ headOf (now indexes.entry) ⌝ }
 {
     if indexes.len() == 0 {
         return 0;

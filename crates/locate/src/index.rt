@@ -15,7 +15,7 @@ ghost use mathlib.Core.Bool.{cond};
 ghost use Prim.Native.Nat.{_+_, _-_, _≤_};
 ghost use lib.Dec.{ltb};
 ghost use Rattle.transcript.specs.Limits.{maxExons};
-ghost use Rattle.transcript.specs.Transcript.{lent};
+ghost use Rattle.transcript.specs.Transcript.{Transcript, given};
 ghost use Rattle.transcript.specs.Orient.{oriented};
 ghost use Rattle.transcript.specs.Admission.{admission};
 ghost use Rattle.common.specs.Lists.{any};
@@ -50,10 +50,12 @@ pub fn scalars_of(
     cumulative_cds: &[u32],
     short: bool,
 ) -> IndexScalars
-    requires { ⌜ admission (lent model (now «exon_starts») (now «exon_ends») (now «seg_phases») (now «seg_exons») (now «seg_starts») (now «seg_ends») (now selenocysteine)) ≡ 0 ⌝ }
-    requires { ⌜ ExonSums (oriented (lent model (now «exon_starts») (now «exon_ends») (now «seg_phases») (now «seg_exons») (now «seg_starts») (now «seg_ends») (now selenocysteine))) (now «cumulative_exons») × CdsSums (oriented (lent model (now «exon_starts») (now «exon_ends») (now «seg_phases») (now «seg_exons») (now «seg_starts») (now «seg_ends») (now selenocysteine))) (now «cumulative_cds») ⌝ }
-    requires { ⌜ short ≡ any isFrameshiftGap (gaps (lentExons (model .strand) (now «exon_starts») (now «exon_ends»))) ⌝ }
-    ensures { λ r. ⌜ r ≡ indexScalars (oriented (lent model (now («exon_starts» .entry)) (now («exon_ends» .entry)) (now («seg_phases» .entry)) (now («seg_exons» .entry)) (now («seg_starts» .entry)) (now («seg_ends» .entry)) (now (selenocysteine .entry)))) ⌝ }
+    ghost { Transcript }
+    requires { λ t. ⌜ t ≡ given model «exon_starts» «exon_ends» «seg_phases» «seg_exons» «seg_starts» «seg_ends» selenocysteine ⌝ }
+    requires { λ t. ⌜ admission t ≡ 0 ⌝ }
+    requires { λ t. ⌜ ExonSums (oriented t) (now «cumulative_exons») × CdsSums (oriented t) (now «cumulative_cds») ⌝ }
+    requires { λ _. ⌜ short ≡ any isFrameshiftGap (gaps (lentExons (model .strand) (now «exon_starts») (now «exon_ends»))) ⌝ }
+    ensures { λ t r. ⌜ r ≡ indexScalars (oriented t) ⌝ }
 {
     let strand = model.strand;
     let cds = model.cds;
@@ -94,8 +96,10 @@ pub fn index_of(
     seg_ends: &[u64],
     selenocysteine: &[u64],
 ) -> LocateIndex
-    requires { ⌜ admission (lent model (now «exon_starts») (now «exon_ends») (now «seg_phases») (now «seg_exons») (now «seg_starts») (now «seg_ends») (now selenocysteine)) ≡ 0 ⌝ }
-    ensures { λ r. ⌜ r ≡ locateIndex (oriented (lent model (now («exon_starts» .entry)) (now («exon_ends» .entry)) (now («seg_phases» .entry)) (now («seg_exons» .entry)) (now («seg_starts» .entry)) (now («seg_ends» .entry)) (now (selenocysteine .entry)))) ⌝ }
+    ghost { Transcript }
+    requires { λ t. ⌜ t ≡ given model «exon_starts» «exon_ends» «seg_phases» «seg_exons» «seg_starts» «seg_ends» selenocysteine ⌝ }
+    requires { λ t. ⌜ admission t ≡ 0 ⌝ }
+    ensures { λ t r. ⌜ r ≡ locateIndex (oriented t) ⌝ }
 {
     let strand = model.strand;
     let mut cumulative_exons = [0u32; 513];

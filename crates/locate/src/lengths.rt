@@ -21,7 +21,7 @@ pub(crate) fn length_before(starts: &[u64], ends: &[u64], n: usize) -> u32
     requires { ⌜ (length (now starts) ≡ length (now ends)) × (length (now starts) ≤ maxExons) × (n ≤ length (now starts)) ⌝ }
     requires { ⌜ any badExon (exonsOf (now starts) (now ends)) ≡ false ⌝ }
     requires { ⌜ sum (map exonSize (exonsOf (now starts) (now ends))) ≤ top ⌝ }
-    ensures { λ r. ⌜ r ≡ getD (cumulative 0 (map exonSize (exonsOf (now (starts .entry)) (now (ends .entry))))) n 0 ⌝ }
+    ensures { λ r. ⌜ r ≡ getD (cumulative 0 (map exonSize (exonsOf (now starts.entry) (now ends.entry)))) n 0 ⌝ }
 {
     let mut acc: u32 = 0;
     let mut i = 0;
@@ -38,7 +38,7 @@ pub(crate) fn length_before(starts: &[u64], ends: &[u64], n: usize) -> u32
 pub(crate) fn bases_before(starts: &[u64], ends: &[u64], strand: Strand, k: usize, p: u64) -> u32
     requires { ⌜ Ready strand (now starts) (now ends) ⌝ }
     requires { ⌜ (k < length (now starts)) × (inside p (getD (lentExons strand (now starts) (now ends)) k (interval 0 0)) ≡ true) ⌝ }
-    ensures { λ r. ⌜ r ≡ basesIn (lentExons strand (now (starts .entry)) (now (ends .entry))) 0 p ⌝ }
+    ensures { λ r. ⌜ r ≡ basesIn (lentExons strand (now starts.entry) (now ends.entry)) 0 p ⌝ }
 {
     let s = starts[k];
     let e = ends[k];

@@ -19,7 +19,7 @@ ghost use Rattle.locate.specs.Sums.{firstSum, Sums};
 // The sum at i and the bases from `start` to p.
 pub(crate) fn offset_at(sums: &[u32], i: usize, start: u64, p: u64) -> u32
     requires { ⌜ (i < length (now sums)) × (getD (now sums) i 0 ≤ 2 + top) × (start ≤ p) × (p ≤ top) ⌝ }
-    ensures { λ r. ⌜ r ≡ getD (now (sums .entry)) i 0 + (p - start) ⌝ }
+    ensures { λ r. ⌜ r ≡ getD (now sums.entry) i 0 + (p - start) ⌝ }
 {
     sums[i] + (p - start) as u32
 }
@@ -35,7 +35,7 @@ pub(crate) fn cds_offset_of(
     requires { ⌜ Ready strand (now starts) (now ends) ⌝ }
     requires { ⌜ Sums (lentExons strand (now starts) (now ends)) (now sums) ⌝ }
     requires { ⌜ insideAny p (lentExons strand (now starts) (now ends)) ≡ true ⌝ }
-    ensures { λ r. ⌜ r .0 ≡ firstSum (now (sums .entry)) + basesIn (lentExons strand (now (starts .entry)) (now (ends .entry))) 0 p ⌝ }
+    ensures { λ r. ⌜ r .0 ≡ firstSum (now sums.entry) + basesIn (lentExons strand (now starts.entry) (now ends.entry)) 0 p ⌝ }
 {
     let found = find_exon_or_intron(starts, ends, strand, p);
     match found {
@@ -57,8 +57,9 @@ pub(crate) fn utr5_length(
 ) -> u32
     requires { ⌜ Ready strand (now starts) (now ends) ⌝ }
     requires { ⌜ Sums (lentExons strand (now starts) (now ends)) (now sums) ⌝ }
-    requires { ⌜ (coding ≡ true → (first < length (now starts)) × (inside from (getD (lentExons strand (now starts) (now ends)) first (interval 0 0)) ≡ true)) ⌝ }
-    ensures { λ r. ⌜ r ≡ cond coding (firstSum (now (sums .entry)) + basesIn (lentExons strand (now (starts .entry)) (now (ends .entry))) 0 from) 0 ⌝ }
+    requires { let x = getD (lentExons strand (now starts) (now ends)) first (interval 0 0) in
+        ⌜ (coding ≡ true → (first < length (now starts)) × (inside from x ≡ true)) ⌝ }
+    ensures { λ r. ⌜ r ≡ cond coding (firstSum (now sums.entry) + basesIn (lentExons strand (now starts.entry) (now ends.entry)) 0 from) 0 ⌝ }
 {
     if !coding {
         return 0;

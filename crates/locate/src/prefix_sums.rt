@@ -9,7 +9,7 @@ ghost use lib.ListN.{length, replicate};
 ghost use lib.Seq.{sets};
 ghost use Rattle.common.specs.Lists.{any};
 ghost use Rattle.transcript.specs.Limits.{top};
-ghost use Rattle.transcript.specs.Transcript.{exonsOf, lent};
+ghost use Rattle.transcript.specs.Transcript.{exonsOf, Transcript, given};
 ghost use Rattle.transcript.specs.Orient.{oriented};
 ghost use Rattle.transcript.specs.Admission.{badExon, admission};
 ghost use Rattle.locate.specs.Index.{cumulative, locateIndex};
@@ -21,7 +21,7 @@ pub fn store_sums(sums: &mut [u32], at: usize, starts: &[u64], ends: &[u64], fir
     requires { ⌜ (length (now starts) ≡ length (now ends)) × (at + length (now starts) < length (now sums)) ⌝ }
     requires { ⌜ any badExon (exonsOf (now starts) (now ends)) ≡ false ⌝ }
     requires { ⌜ first + sum (map exonSize (exonsOf (now starts) (now ends))) ≤ 2 + top ⌝ }
-    ensures { λ _. ⌜ now (sums .exit) ≡ sets (now (sums .entry)) at (cumulative first (map exonSize (exonsOf (now (starts .entry)) (now (ends .entry))))) ⌝ }
+    ensures { λ _. ⌜ now sums.exit ≡ sets (now sums.entry) at (cumulative first (map exonSize (exonsOf (now starts.entry) (now ends.entry)))) ⌝ }
 {
     let mut acc = first;
     let mut i = 0;
@@ -48,10 +48,14 @@ pub fn sum_up(
     seg_ends: &[u64],
     selenocysteine: &[u64],
 )
-    requires { ⌜ (now «cumulative_exons» ≡ replicate 513 0) × (now «cumulative_cds» ≡ replicate 513 0) ⌝ }
-    requires { ⌜ admission (lent model (now «exon_starts») (now «exon_ends») (now «seg_phases») (now «seg_exons») (now «seg_starts») (now «seg_ends») (now selenocysteine)) ≡ 0 ⌝ }
-    ensures { λ _. ⌜ (now («cumulative_exons» .exit) ≡ locateIndex (oriented (lent model (now («exon_starts» .entry)) (now («exon_ends» .entry)) (now («seg_phases» .entry)) (now («seg_exons» .entry)) (now («seg_starts» .entry)) (now («seg_ends» .entry)) (now (selenocysteine .entry)))) .«cumulative_exons») × (now («cumulative_cds» .exit) ≡ locateIndex (oriented (lent model (now («exon_starts» .entry)) (now («exon_ends» .entry)) (now («seg_phases» .entry)) (now («seg_exons» .entry)) (now («seg_starts» .entry)) (now («seg_ends» .entry)) (now (selenocysteine .entry)))) .«cumulative_cds») ⌝ }
-    ensures { λ _. ⌜ (length (now («cumulative_exons» .exit)) ≡ 513) × (length (now («cumulative_cds» .exit)) ≡ 513) ⌝ }
+    ghost { Transcript }
+    requires { λ t. ⌜ t ≡ given model «exon_starts» «exon_ends» «seg_phases» «seg_exons» «seg_starts» «seg_ends» selenocysteine ⌝ }
+    requires { λ _. ⌜ (now «cumulative_exons» ≡ replicate 513 0) × (now «cumulative_cds» ≡ replicate 513 0) ⌝ }
+    requires { λ t. ⌜ admission t ≡ 0 ⌝ }
+    ensures { λ t _.
+        let x = locateIndex (oriented t) in
+        ⌜ (now «cumulative_exons».exit ≡ x .«cumulative_exons») × (now «cumulative_cds».exit ≡ x .«cumulative_cds») ⌝ }
+    ensures { λ _ _. ⌜ (length (now «cumulative_exons».exit) ≡ 513) × (length (now «cumulative_cds».exit) ≡ 513) ⌝ }
 {
     let pad = pad_of(seg_phases) as u32;
     store_sums(cumulative_exons, 0, exon_starts, exon_ends, 0);

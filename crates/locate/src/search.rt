@@ -14,7 +14,7 @@ ghost use Rattle.locate.specs.Search.{Ready, Started, exonOrIntron, Foun
 // How many exons start at or before p, an oriented coordinate.
 pub fn started(starts: &[u64], ends: &[u64], strand: Strand, p: u64) -> usize
     requires { ⌜ Ready strand (now starts) (now ends) ⌝ }
-    ensures { λ r. ⌜ (r ≤ length (now (starts .entry))) × Started (lentExons strand (now (starts .entry)) (now (ends .entry))) p r ⌝ }
+    ensures { λ r. ⌜ (r ≤ length (now starts.entry)) × Started (lentExons strand (now starts.entry) (now ends.entry)) p r ⌝ }
 {
     let mut lo: usize = 0;
     let mut hi = starts.len();
@@ -40,7 +40,9 @@ pub(crate) fn find_exon_or_intron(
 ) -> ExonOrIntron
     requires { ⌜ Ready strand (now starts) (now ends) ⌝ }
     requires { ⌜ firstStart (lentExons strand (now starts) (now ends)) ≤ p ⌝ }
-    ensures { λ r. ⌜ (r ≡ exonOrIntron (findExonOrIntron (lentExons strand (now (starts .entry)) (now (ends .entry))) p)) × FoundAt (lentExons strand (now (starts .entry)) (now (ends .entry))) p r ⌝ }
+    ensures { λ r.
+        let xs = lentExons strand (now starts.entry) (now ends.entry) in
+        ⌜ (r ≡ exonOrIntron (findExonOrIntron xs p)) × FoundAt xs p r ⌝ }
 {
     let n = started(starts, ends, strand, p);
     let i = n - 1;

@@ -22,7 +22,10 @@ pub fn selenocysteine_codons(
     bases: &[u64],
 ) -> CodonNumbers
     requires { ⌜ Coded strand (now starts) (now ends) (now sums) (now bases) ⌝ }
-    ensures { λ r. ⌜ r .numbers ≡ filled 64 (map (λ b. (firstSum (now (sums .entry)) + basesIn (lentExons strand (now (starts .entry)) (now (ends .entry))) 0 b) / 3 + 1) (map (orientBase strand) (now (bases .entry)))) ⌝ }
+    ensures { λ r.
+        let xs = lentExons strand (now starts.entry) (now ends.entry) in
+        let first = firstSum (now sums.entry) in
+        ⌜ r .numbers ≡ filled 64 (map (λ b. (first + basesIn xs 0 b) / 3 + 1) (map (orientBase strand) (now bases.entry))) ⌝ }
 {
     let mut numbers = [0u32; 64];
     let mut i = 0;

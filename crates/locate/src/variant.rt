@@ -10,7 +10,7 @@ use transcript::question::refusal_number;
 ghost use mathlib.Core.Path.{_≡_};
 ghost use Prim.Native.Nat.{_-_};
 ghost use Rattle.footprint.specs.Ranges.{sourceRanges};
-ghost use Rattle.transcript.specs.Transcript.{lent};
+ghost use Rattle.transcript.specs.Transcript.{wasGiven};
 ghost use Rattle.locate.specs.Query.{locateVariant};
 
 // The place of the base at `start`, or the number of the refusal.
@@ -27,7 +27,9 @@ pub fn locate_variant(
     seg_ends: &[u64],
     selenocysteine: &[u64],
 ) -> Located
-    ensures { λ r. ⌜ r ≡ locateVariant sourceRanges (lent model (now («exon_starts» .entry)) (now («exon_ends» .entry)) (now («seg_phases» .entry)) (now («seg_exons» .entry)) (now («seg_starts» .entry)) (now («seg_ends» .entry)) (now (selenocysteine .entry))) chromosome start end ⌝ }
+    ensures { λ r.
+        let t = wasGiven model «exon_starts» «exon_ends» «seg_phases» «seg_exons» «seg_starts» «seg_ends» selenocysteine in
+        ⌜ r ≡ locateVariant sourceRanges t chromosome start end ⌝ }
 {
     let admitted = admit(
         model,

@@ -74,7 +74,8 @@ fn locate_table(
     seg_ends: &[u64],
     selenocysteine: &[u64],
 ) -> Located
-    ensures { λ r. ⌜ r ≡ locatedOn chromosome start end model table n (now («seg_phases» .entry)) (now («seg_exons» .entry)) (now («seg_starts» .entry)) (now («seg_ends» .entry)) (now (selenocysteine .entry)) ⌝ }
+    ensures { λ r. ⌜ r ≡ locatedOn chromosome start end model table n
+        (now «seg_phases».entry) (now «seg_exons».entry) (now «seg_starts».entry) (now «seg_ends».entry) (now selenocysteine.entry) ⌝ }
 {
     if 512 < n {
         return Located::Refused(1);
@@ -109,7 +110,10 @@ pub fn locate_exons(
     seg_ends: &[u64],
     selenocysteine: &[u64],
 ) -> Located
-    ensures { λ r. ⌜ r ≡ locateVariant sourceRanges (lentRecords model (now (exons .entry)) (now («seg_phases» .entry)) (now («seg_exons» .entry)) (now («seg_starts» .entry)) (now («seg_ends» .entry)) (now (selenocysteine .entry))) chromosome start end ⌝ }
+    ensures { λ r.
+        let t = lentRecords model (now exons.entry)
+        (now «seg_phases».entry) (now «seg_exons».entry) (now «seg_starts».entry) (now «seg_ends».entry) (now selenocysteine.entry) in
+        ⌜ r ≡ locateVariant sourceRanges t chromosome start end ⌝ }
 {
     locate_table(
         chromosome,

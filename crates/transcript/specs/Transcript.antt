@@ -4,6 +4,8 @@ use mathlib.Core.Bool.{Bool, true, false, cond, _&&_}
 use mathlib.Core.List.{List, [], _∷_}
 use lib.ListN.{length}
 use lib.Dec.{eqb}
+use denote.Ref.{now}
+use Rattle.common.specs.Slices.{Slice, Passed}
 use Rattle.transcript.specs.declared.TranscriptModel.{TranscriptModel}
 use Rattle.transcript.specs.declared.CdsBounds.{CdsBounds}
 use Rattle.transcript.specs.declared.CdsBounds.the-variants.{Neither, Both}
@@ -47,6 +49,16 @@ lent m starts ends phases indexes segmentStarts segmentEnds bases = record {
   segments = segmentsOf phases indexes segmentStarts segmentEnds;
   selenocysteine = bases;
 }
+
+-- the transcript that is given, as a `requires` names it: `lent` of the slices' lists
+abbrev pub given : TranscriptModel → Slice → Slice → Slice → Slice → Slice → Slice → Slice → Transcript
+given m starts ends phases indexes segmentStarts segmentEnds bases =
+    lent m (now starts) (now ends) (now phases) (now indexes) (now segmentStarts) (now segmentEnds) (now bases)
+
+-- the same as an `ensures` names it: the transcript that was given
+abbrev pub wasGiven : TranscriptModel → Passed → Passed → Passed → Passed → Passed → Passed → Passed → Transcript
+wasGiven m starts ends phases indexes segmentStarts segmentEnds bases =
+    given m (starts .entry) (ends .entry) (phases .entry) (indexes .entry) (segmentStarts .entry) (segmentEnds .entry) (bases .entry)
 
 -- the CDS bounds, and 0 where there are none
 abbrev pub cdsStart : CdsBounds → ℕ

@@ -42,7 +42,7 @@ pub(crate) fn is_cut(
 ) -> bool
     requires { ⌜ (length (now starts) ≡ length (now indexes)) × (length (now starts) ≡ length (now ends)) × (k < length (now indexes)) ⌝ }
     requires { ⌜ any badExon (exonsOf (now starts) (now ends)) ≡ false ⌝ }
-    ensures { λ r. ⌜ r ≡ sameCut (cutAt (getD (now (indexes .entry)) k 0) (orient strand (getD (now (starts .entry)) k 0) (getD (now (ends .entry)) k 0))) (cutAt i (interval lo hi)) ⌝ }
+    ensures { λ r. ⌜ r ≡ sameCut (cutAt (getD (now indexes.entry) k 0) (orient strand (getD (now starts.entry) k 0) (getD (now ends.entry) k 0))) (cutAt i (interval lo hi)) ⌝ }
 {
     let x = indexes[k] as usize;
     if x != i {
@@ -68,7 +68,10 @@ pub(crate) fn are_cuts(
     seg_ends: &[u64],
 ) -> bool
     requires { ⌜ Cuttable (now starts) (now ends) «cds_start» «cds_end» (now «seg_exons») (now «seg_starts») (now «seg_ends») ⌝ }
-    ensures { λ r. ⌜ r ≡ sameCuts (listedCuts strand (now («seg_exons» .entry)) (now («seg_starts» .entry)) (now («seg_ends» .entry))) (cuts (orient strand «cds_start» «cds_end») 0 (map (orientExon strand) (exonsOf (now (starts .entry)) (now (ends .entry))))) ⌝ }
+    ensures { λ r.
+        let listed = listedCuts strand (now «seg_exons».entry) (now «seg_starts».entry) (now «seg_ends».entry) in
+        let exons = map (orientExon strand) (exonsOf (now starts.entry) (now ends.entry)) in
+        ⌜ r ≡ sameCuts listed (cuts (orient strand «cds_start» «cds_end») 0 exons) ⌝ }
 {
     let first = start_of(strand, cds_start, cds_end);
     let past = end_of(strand, cds_start, cds_end);
@@ -109,7 +112,10 @@ pub(crate) fn cds_fault(
 ) -> u8
     requires { ⌜ Cuttable (now starts) (now ends) «cds_start» «cds_end» (now «seg_exons») (now «seg_starts») (now «seg_ends») ⌝ }
     requires { ⌜ (coding ≡ true → «cds_start» < «cds_end») ⌝ }
-    ensures { λ r. ⌜ r ≡ cdsFault coding (orient strand «cds_start» «cds_end») (map (orientExon strand) (exonsOf (now (starts .entry)) (now (ends .entry)))) (listedCuts strand (now («seg_exons» .entry)) (now («seg_starts» .entry)) (now («seg_ends» .entry))) ⌝ }
+    ensures { λ r.
+        let listed = listedCuts strand (now «seg_exons».entry) (now «seg_starts».entry) (now «seg_ends».entry) in
+        let exons = map (orientExon strand) (exonsOf (now starts.entry) (now ends.entry)) in
+        ⌜ r ≡ cdsFault coding (orient strand «cds_start» «cds_end») exons listed ⌝ }
 {
     if !coding {
         return 0;

@@ -20,7 +20,7 @@ use order::in_order;
 use segments::bad_selenocysteine;
 use segments::index_fault;
 ghost use mathlib.Core.Path.{_≡_};
-ghost use Rattle.transcript.specs.Transcript.{lent};
+ghost use Rattle.transcript.specs.Transcript.{wasGiven};
 ghost use Rattle.transcript.specs.Admission.{admissionOf};
 
 pub enum Strand {
@@ -78,7 +78,9 @@ pub fn admit(
     seg_ends: &[u64],
     selenocysteine: &[u64],
 ) -> Admission
-    ensures { λ r. ⌜ r ≡ admissionOf (lent model (now («exon_starts» .entry)) (now («exon_ends» .entry)) (now («seg_phases» .entry)) (now («seg_exons» .entry)) (now («seg_starts» .entry)) (now («seg_ends» .entry)) (now (selenocysteine .entry))) ⌝ }
+    ensures { λ r.
+        let t = wasGiven model «exon_starts» «exon_ends» «seg_phases» «seg_exons» «seg_starts» «seg_ends» selenocysteine in
+        ⌜ r ≡ admissionOf t ⌝ }
 {
     if !are_even(
         exon_starts.len(),

@@ -56,7 +56,7 @@ pub(crate) fn bad_numbers(count: u16, exons: usize, segments: usize, bases: usiz
 // 2: an interval whose start is not below its end or whose end is over the limit.
 pub(crate) fn bad_edges(starts: &[u64], ends: &[u64]) -> bool
     requires { ⌜ length (now starts) ≡ length (now ends) ⌝ }
-    ensures { λ r. ⌜ r ≡ any badExon (exonsOf (now (starts .entry)) (now (ends .entry))) ⌝ }
+    ensures { λ r. ⌜ r ≡ any badExon (exonsOf (now starts.entry) (now ends.entry)) ⌝ }
 {
     let mut i = 0;
     while i < starts.len() {
@@ -75,7 +75,7 @@ pub(crate) fn bad_edges(starts: &[u64], ends: &[u64]) -> bool
 
 // 2: a base over the limit.
 pub(crate) fn bad_bases(bases: &[u64]) -> bool
-    ensures { λ r. ⌜ r ≡ any overLimit (now (bases .entry)) ⌝ }
+    ensures { λ r. ⌜ r ≡ any overLimit (now bases.entry) ⌝ }
 {
     let mut i = 0;
     while i < bases.len() {
@@ -145,7 +145,7 @@ pub(crate) fn bad_coordinates(
 ) -> bool
     requires { ⌜ length (now «exon_starts») ≡ length (now «exon_ends») ⌝ }
     requires { ⌜ length (now «seg_starts») ≡ length (now «seg_ends») ⌝ }
-    ensures { λ r. ⌜ r ≡ badListed model (now («exon_starts» .entry)) (now («exon_ends» .entry)) (now («seg_starts» .entry)) (now («seg_ends» .entry)) (now (bases .entry)) ⌝ }
+    ensures { λ r. ⌜ r ≡ badListed model (now «exon_starts».entry) (now «exon_ends».entry) (now «seg_starts».entry) (now «seg_ends».entry) (now bases.entry) ⌝ }
 {
     if bad_edges(exon_starts, exon_ends) {
         return true;

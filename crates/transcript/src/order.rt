@@ -20,7 +20,7 @@ ghost use Rattle.transcript.specs.Lent.{phaseOver, padOfPhases};
 pub(crate) fn in_order(starts: &[u64], ends: &[u64], strand: Strand) -> bool
     requires { ⌜ length (now starts) ≡ length (now ends) ⌝ }
     requires { ⌜ any badExon (exonsOf (now starts) (now ends)) ≡ false ⌝ }
-    ensures { λ r. ⌜ r ≡ ascending 0 (map (orientExon strand) (exonsOf (now (starts .entry)) (now (ends .entry)))) ⌝ }
+    ensures { λ r. ⌜ r ≡ ascending 0 (map (orientExon strand) (exonsOf (now starts.entry) (now ends.entry))) ⌝ }
 {
     let mut edge: u64 = 0;
     let mut i = 0;
@@ -48,7 +48,7 @@ pub(crate) fn bad_bounds(
     requires { ⌜ 0 < length (now starts) ⌝ }
     requires { ⌜ any badExon (exonsOf (now starts) (now ends)) ≡ false ⌝ }
     requires { ⌜ («tx_start» ≤ coordinateLimit) × («tx_end» ≤ coordinateLimit) ⌝ }
-    ensures { λ r. ⌜ r ≡ notOuter (orient strand «tx_start» «tx_end») (map (orientExon strand) (exonsOf (now (starts .entry)) (now (ends .entry)))) ⌝ }
+    ensures { λ r. ⌜ r ≡ notOuter (orient strand «tx_start» «tx_end») (map (orientExon strand) (exonsOf (now starts.entry) (now ends.entry))) ⌝ }
 {
     let s = starts[0];
     let e = ends[0];
@@ -81,7 +81,7 @@ pub(crate) fn bad_cds(cds: CdsBounds, segments: bool) -> bool
 
 // 6: a phase over 2.
 pub(crate) fn bad_phases(phases: &[u8]) -> bool
-    ensures { λ r. ⌜ r ≡ any phaseOver (now (phases .entry)) ⌝ }
+    ensures { λ r. ⌜ r ≡ any phaseOver (now phases.entry) ⌝ }
 {
     let mut i = 0;
     while i < phases.len() {
@@ -96,7 +96,7 @@ pub(crate) fn bad_phases(phases: &[u8]) -> bool
 // The pad: (3 - first phase) mod 3, or 0 without segments.
 pub fn pad_of(phases: &[u8]) -> u8
     requires { ⌜ any phaseOver (now phases) ≡ false ⌝ }
-    ensures { λ r. ⌜ r ≡ padOfPhases (now (phases .entry)) ⌝ }
+    ensures { λ r. ⌜ r ≡ padOfPhases (now phases.entry) ⌝ }
 {
     if phases.len() == 0 {
         return 0;
@@ -108,7 +108,7 @@ pub fn pad_of(phases: &[u8]) -> u8
 // 7: a pad that is not 0 where the start is complete.
 pub(crate) fn bad_pad(phases: &[u8], complete: bool) -> bool
     requires { ⌜ any phaseOver (now phases) ≡ false ⌝ }
-    ensures { λ r. ⌜ r ≡ (not (eqb (padOfPhases (now (phases .entry))) 0) && complete) ⌝ }
+    ensures { λ r. ⌜ r ≡ (not (eqb (padOfPhases (now phases.entry)) 0) && complete) ⌝ }
 {
     if pad_of(phases) == 0 {
         return false;

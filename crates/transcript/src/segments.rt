@@ -14,7 +14,7 @@ ghost use Rattle.transcript.specs.Lent.{holds, holdsNone};
 // 8, 9: the first index that names no exon, or one that an earlier index names.
 pub(crate) fn index_fault(exons: usize, indexes: &[u16]) -> u8
     requires { ⌜ exons ≤ maxExons ⌝ }
-    ensures { λ r. ⌜ r ≡ indexFault exons [] (now (indexes .entry)) ⌝ }
+    ensures { λ r. ⌜ r ≡ indexFault exons [] (now indexes.entry) ⌝ }
 {
     let mut seen = [false; 512];
     let mut i = 0;
@@ -45,7 +45,7 @@ pub fn lies_in(p: u64, s: u64, e: u64) -> bool
 // Whether one of the intervals holds the base.
 pub(crate) fn holds_base(starts: &[u64], ends: &[u64], p: u64) -> bool
     requires { ⌜ length (now starts) ≡ length (now ends) ⌝ }
-    ensures { λ r. ⌜ r ≡ any (holds p) (exonsOf (now (starts .entry)) (now (ends .entry))) ⌝ }
+    ensures { λ r. ⌜ r ≡ any (holds p) (exonsOf (now starts.entry) (now ends.entry)) ⌝ }
 {
     let mut i = 0;
     while i < starts.len() {
@@ -62,7 +62,7 @@ pub(crate) fn holds_base(starts: &[u64], ends: &[u64], p: u64) -> bool
 // 13: a base that no segment holds.
 pub(crate) fn bad_selenocysteine(bases: &[u64], starts: &[u64], ends: &[u64]) -> bool
     requires { ⌜ length (now starts) ≡ length (now ends) ⌝ }
-    ensures { λ r. ⌜ r ≡ any (holdsNone (exonsOf (now (starts .entry)) (now (ends .entry)))) (now (bases .entry)) ⌝ }
+    ensures { λ r. ⌜ r ≡ any (holdsNone (exonsOf (now starts.entry) (now ends.entry))) (now bases.entry) ⌝ }
 {
     let mut i = 0;
     while i < bases.len() {

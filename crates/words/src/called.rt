@@ -15,7 +15,7 @@ ghost use Rattle.words.specs.Row.{Near, NearCalled};
 
 fn put_result(out: &mut [i64], at: usize, a: ConsequenceResult)
     requires { ⌜ (at + 20 ≤ length (now out)) × Near (a .location) ⌝ }
-    ensures { λ _. ⌜ now (out .exit) ≡ sets (now (out .entry)) at (calledWords (Called.Answered a)) ⌝ }
+    ensures { λ _. ⌜ now out.exit ≡ sets (now out.entry) at (calledWords (Called.Answered a)) ⌝ }
 {
     let place = a.location;
     put_row(out, at, row_of(place));
@@ -25,7 +25,7 @@ fn put_result(out: &mut [i64], at: usize, a: ConsequenceResult)
 // The number of a refusal with zeros behind it.
 fn put_refusal(out: &mut [i64], at: usize, n: u8)
     requires { ⌜ at + 20 ≤ length (now out) ⌝ }
-    ensures { λ _. ⌜ now (out .exit) ≡ sets (now (out .entry)) at (calledWords (Called.Refused n)) ⌝ }
+    ensures { λ _. ⌜ now out.exit ≡ sets (now out.entry) at (calledWords (Called.Refused n)) ⌝ }
 {
     put_counts(out, at, n as u32, 0, 0, 0);
     put_counts(out, at + 4, 0, 0, 0, 0);
@@ -37,7 +37,7 @@ fn put_refusal(out: &mut [i64], at: usize, n: u8)
 // An answer as 20 numbers.
 pub fn put_called(out: &mut [i64], at: usize, called: Called)
     requires { ⌜ (at + 20 ≤ length (now out)) × NearCalled called ⌝ }
-    ensures { λ _. ⌜ now (out .exit) ≡ sets (now (out .entry)) at (calledWords called) ⌝ }
+    ensures { λ _. ⌜ now out.exit ≡ sets (now out.entry) at (calledWords called) ⌝ }
 {
     match called {
         Called::Answered(a) => put_result(out, at, a),

@@ -104,7 +104,7 @@ fn letters_word(letters: AminoAcids) -> u32
 // The columns behind the place.
 pub(crate) fn put_columns(out: &mut [i64], at: usize, a: ConsequenceResult)
     requires { ⌜ at + 12 ≤ length (now out) ⌝ }
-    ensures { λ _. ⌜ now (out .exit) ≡ sets (now (out .entry)) at (columnWords a) ⌝ }
+    ensures { λ _. ⌜ now out.exit ≡ sets (now out.entry) at (columnWords a) ⌝ }
 {
     let exon = a.exon;
     let intron = a.intron;

@@ -57,7 +57,7 @@ fn endpoint_index(e: Endpoint) -> u32
 // The answers as 7 numbers.
 pub fn put_interval(out: &mut [i64], flank: Flank, e: Endpoint, spill: SpliceSpill)
     requires { ⌜ (length (now out) ≡ 7) × NearFlank flank ⌝ }
-    ensures { λ _. ⌜ now (out .exit) ≡ intervalWords (Flanked.Beside flank) e (Spilled.Spill spill) ⌝ }
+    ensures { λ _. ⌜ now out.exit ≡ intervalWords (Flanked.Beside flank) e (Spilled.Spill spill) ⌝ }
 {
     put_counts(
         out,

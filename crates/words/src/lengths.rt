@@ -10,7 +10,7 @@ pub fn calls_fit(
     alts: &[u8],
     out: &[i64],
 ) -> bool
-    ensures { λ r. ⌜ r ≡ callsFit (now (chromosomes .entry)) (now (positions .entry)) (now (refs .entry)) (now (alts .entry)) (now (out .entry)) ⌝ }
+    ensures { λ r. ⌜ r ≡ callsFit (now chromosomes.entry) (now positions.entry) (now refs.entry) (now alts.entry) (now out.entry) ⌝ }
 {
     let n = positions.len();
     if chromosomes.len() != n {

@@ -18,7 +18,7 @@ ghost use Rattle.words.specs.Row.{rowWords, NearAt};
 // A place behind the number 0.
 pub(crate) fn put_row(out: &mut [i64], at: usize, row: Row)
     requires { ⌜ at + 8 ≤ length (now out) ⌝ }
-    ensures { λ _. ⌜ now (out .exit) ≡ sets (now (out .entry)) at (pos 0 ∷ rowWords row) ⌝ }
+    ensures { λ _. ⌜ now out.exit ≡ sets (now out.entry) at (pos 0 ∷ rowWords row) ⌝ }
 {
     put_counts(out, at, 0, row.kind, row.mark, row.index);
     let segment = signed(row.segment);
@@ -31,7 +31,7 @@ pub(crate) fn put_row(out: &mut [i64], at: usize, row: Row)
 // The number of a refusal with zeros behind it.
 fn put_refusal(out: &mut [i64], at: usize, n: u8)
     requires { ⌜ at + 8 ≤ length (now out) ⌝ }
-    ensures { λ _. ⌜ now (out .exit) ≡ sets (now (out .entry)) at (locatedWords (Located.Refused n)) ⌝ }
+    ensures { λ _. ⌜ now out.exit ≡ sets (now out.entry) at (locatedWords (Located.Refused n)) ⌝ }
 {
     put_counts(out, at, n as u32, 0, 0, 0);
     put_counts(out, at + 4, 0, 0, 0, 0);
@@ -40,7 +40,7 @@ fn put_refusal(out: &mut [i64], at: usize, n: u8)
 // An answer as 8 numbers.
 pub fn put_located(out: &mut [i64], at: usize, located: Located)
     requires { ⌜ (at + 8 ≤ length (now out)) × NearAt located ⌝ }
-    ensures { λ _. ⌜ now (out .exit) ≡ sets (now (out .entry)) at (locatedWords located) ⌝ }
+    ensures { λ _. ⌜ now out.exit ≡ sets (now out.entry) at (locatedWords located) ⌝ }
 {
     match located {
         Located::At(place) => put_row(out, at, row_of(place)),

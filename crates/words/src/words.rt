@@ -16,7 +16,7 @@ pub(crate) fn signed(n: u32) -> i64
 // Four numbers from a position on.
 pub(crate) fn put4(out: &mut [i64], at: usize, a: i64, b: i64, c: i64, d: i64)
     requires { ⌜ at + 4 ≤ length (now out) ⌝ }
-    ensures { λ _. ⌜ now (out .exit) ≡ sets (now (out .entry)) at (a ∷ b ∷ c ∷ d ∷ []) ⌝ }
+    ensures { λ _. ⌜ now out.exit ≡ sets (now out.entry) at (a ∷ b ∷ c ∷ d ∷ []) ⌝ }
 {
     out[at] = a;
     out[at + 1] = b;
@@ -27,7 +27,7 @@ pub(crate) fn put4(out: &mut [i64], at: usize, a: i64, b: i64, c: i64, d: i64)
 // Four counts from a position on.
 pub(crate) fn put_counts(out: &mut [i64], at: usize, a: u32, b: u32, c: u32, d: u32)
     requires { ⌜ at + 4 ≤ length (now out) ⌝ }
-    ensures { λ _. ⌜ now (out .exit) ≡ sets (now (out .entry)) at (pos a ∷ pos b ∷ pos c ∷ pos d ∷ []) ⌝ }
+    ensures { λ _. ⌜ now out.exit ≡ sets (now out.entry) at (pos a ∷ pos b ∷ pos c ∷ pos d ∷ []) ⌝ }
 {
     put4(out, at, signed(a), signed(b), signed(c), signed(d));
 }
@@ -35,7 +35,7 @@ pub(crate) fn put_counts(out: &mut [i64], at: usize, a: u32, b: u32, c: u32, d: 
 // Three counts from a position on.
 pub(crate) fn put_three(out: &mut [i64], at: usize, a: u32, b: u32, c: u32)
     requires { ⌜ at + 3 ≤ length (now out) ⌝ }
-    ensures { λ _. ⌜ now (out .exit) ≡ sets (now (out .entry)) at (pos a ∷ pos b ∷ pos c ∷ []) ⌝ }
+    ensures { λ _. ⌜ now out.exit ≡ sets (now out.entry) at (pos a ∷ pos b ∷ pos c ∷ []) ⌝ }
 {
     let x = signed(a);
     let y = signed(b);
