@@ -32,7 +32,10 @@ pub(crate) struct BaseNumbers {
 
 // The numbers of a codon's bases and of another byte, from one reading of the table.
 pub(crate) fn base_numbers(c: Codon, other: u8) -> BaseNumbers
-    ensures { λ r. ⌜ (r .first ≡ baseNumber (c .first)) × (r .second ≡ baseNumber (c .second)) × (r .third ≡ baseNumber (c .third)) × (r .other ≡ baseNumber other) ⌝ }
+    ensures { λ r. ⌜ (r .first ≡ baseNumber (c .first))
+        × (r .second ≡ baseNumber (c .second))
+        × (r .third ≡ baseNumber (c .third))
+        × (r .other ≡ baseNumber other) ⌝ }
 {
     let numbers = BASE_NUMBERS;
     BaseNumbers {

@@ -22,7 +22,11 @@ EDEDAAAAGGGGVVVV\
 
 // The place in the table of a codon whose bytes have those numbers, none where one is no base.
 pub(crate) fn numbers_to_index(n: BaseNumbers) -> CodonIndex
-    ensures { λ r. ⌜ ((c : Codon) → n .first ≡ baseNumber (c .first) → n .second ≡ baseNumber (c .second) → n .third ≡ baseNumber (c .third) → r ≡ codonToIndex c) ⌝ }
+    ensures { λ r. ⌜ ((c : Codon)
+        → n .first ≡ baseNumber (c .first)
+        → n .second ≡ baseNumber (c .second)
+        → n .third ≡ baseNumber (c .third)
+        → r ≡ codonToIndex c) ⌝ }
 {
     if n.first > 3 {
         return CodonIndex::NoCodon;

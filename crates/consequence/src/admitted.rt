@@ -10,8 +10,8 @@ use locate::place::place_of_base;
 use transcript::TranscriptModel;
 use transcript::question::base_of;
 ghost use mathlib.Core.Path.{_≡_};
-ghost use Rattle.transcript.specs.Transcript.{Transcript, given};
-ghost use Rattle.consequence.specs.Window.{Window, windowGiven};
+ghost use Rattle.transcript.specs.Transcript.{given, wasGiven};
+ghost use Rattle.consequence.specs.Window.{windowWasGiven};
 ghost use Rattle.footprint.specs.Ranges.{sourceRanges};
 ghost use Rattle.consequence.specs.Call.{annotateSnv};
 ghost use Rattle.consequence.specs.Prepared.{Prepared};
@@ -35,13 +35,12 @@ pub fn annotate_admitted(
     cumulative_cds: &[u32],
     selenocysteine_codons: &[u32; 64],
 ) -> Called
-    ghost { Transcript × Window }
-    requires { λ g.
-        let t = given model «exon_starts» «exon_ends» «seg_phases» «seg_exons» «seg_starts» «seg_ends» selenocysteine in
-        let w = windowGiven «window_chromosome» «window_first» window in
-        ⌜ g ≡ (t, w) ⌝ }
-    requires { λ (t, w). ⌜ Prepared t scalars (now «cumulative_exons») (now «cumulative_cds») (now «selenocysteine_codons») ⌝ }
-    ensures { λ (t, w) r. ⌜ r ≡ annotateSnv sourceRanges t w call ⌝ }
+    requires { let t = given model «exon_starts» «exon_ends» «seg_phases» «seg_exons» «seg_starts» «seg_ends» selenocysteine in
+        ⌜ Prepared t scalars (now «cumulative_exons») (now «cumulative_cds») (now «selenocysteine_codons») ⌝ }
+    ensures { λ r.
+        let t = wasGiven model «exon_starts» «exon_ends» «seg_phases» «seg_exons» «seg_starts» «seg_ends» selenocysteine in
+        let w = windowWasGiven «window_chromosome» «window_first» window in
+        ⌜ r ≡ annotateSnv sourceRanges t w call ⌝ }
 {
     let refusal = opening_refusal(
         model.chromosome,

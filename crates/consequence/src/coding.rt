@@ -50,9 +50,14 @@ pub(crate) fn annotate_cds_snv(
     mark: bool,
 ) -> Called
     requires { ⌜ Segments strand (now starts) (now ends) (now sums) (scalars .«cds_start_pad») ⌝ }
-    requires { ⌜ (scalars .«segment_count» ≡ length (now starts)) × (scalars .«total_cds_length» ≡ getD (now sums) (length (now starts)) 0) × (offset < scalars .«total_cds_length») ⌝ }
+    requires { ⌜ (scalars .«segment_count» ≡ length (now starts))
+        × (scalars .«total_cds_length» ≡ getD (now sums) (length (now starts)) 0)
+        × (offset < scalars .«total_cds_length») ⌝ }
     requires { ⌜ (scalars .«selenocysteine_count» ≤ 64) × (scalars .«selenocysteine_count» ≤ length (now codons)) ⌝ }
-    requires { ⌜ (i < 65535) × (offset ≤ 2 + top) × (scalars .«cds_start_pad» ≤ offset) × (scalars .«utr5_exonic_len» + (offset - scalars .«cds_start_pad») ≤ top) ⌝ }
+    requires { ⌜ (i < 65535)
+        × (offset ≤ 2 + top)
+        × (scalars .«cds_start_pad» ≤ offset)
+        × (scalars .«utr5_exonic_len» + (offset - scalars .«cds_start_pad») ≤ top) ⌝ }
     ensures { λ r.
         let base = codingBase strand (windowFrom first (now bytes.entry)) in
         ⌜ ((t : Oriented) (p : ℕ)

@@ -12,7 +12,7 @@ use locate::IndexScalars;
 use locate::VariantLocation;
 use transcript::TranscriptModel;
 ghost use mathlib.Core.Path.{_≡_};
-ghost use Rattle.transcript.specs.Transcript.{Transcript, given};
+ghost use Rattle.transcript.specs.Transcript.{given, wasGiven};
 ghost use Rattle.transcript.specs.Orient.{oriented};
 ghost use Rattle.footprint.specs.Ranges.{sourceRanges};
 ghost use Rattle.locate.specs.Place.{locate};
@@ -41,11 +41,11 @@ pub(crate) fn annotate_place(
     place: VariantLocation,
     p: u64,
 ) -> Called
-    ghost { Transcript }
-    requires { λ t. ⌜ t ≡ given model «exon_starts» «exon_ends» «seg_phases» «seg_exons» «seg_starts» «seg_ends» selenocysteine ⌝ }
-    requires { λ t. ⌜ Prepared t scalars (now «cumulative_exons») (now «cumulative_cds») (now «selenocysteine_codons») ⌝ }
-    requires { λ t. ⌜ place ≡ locate sourceRanges (oriented t) p ⌝ }
-    ensures { λ t r.
+    requires { let t = given model «exon_starts» «exon_ends» «seg_phases» «seg_exons» «seg_starts» «seg_ends» selenocysteine in
+        ⌜ Prepared t scalars (now «cumulative_exons») (now «cumulative_cds») (now «selenocysteine_codons») ⌝
+        ∗ ⌜ place ≡ locate sourceRanges (oriented t) p ⌝ }
+    ensures { λ r.
+        let t = wasGiven model «exon_starts» «exon_ends» «seg_phases» «seg_exons» «seg_starts» «seg_ends» selenocysteine in
         let w = windowFrom first (now bytes.entry) in
         ⌜ r ≡ placeCalled (oriented t) p (codingByte (model .strand) «alt_base») (callCodon t w) place ⌝ }
 {

@@ -6,8 +6,8 @@ use locate::scalars_of;
 use locate::selenocysteine_codons;
 use transcript::TranscriptModel;
 ghost use mathlib.Core.Path.{_≡_};
-ghost use Rattle.transcript.specs.Transcript.{Transcript, given};
-ghost use Rattle.consequence.specs.Window.{Window, windowGiven};
+ghost use Rattle.transcript.specs.Transcript.{given, wasGiven};
+ghost use Rattle.consequence.specs.Window.{windowWasGiven};
 ghost use Rattle.footprint.specs.Ranges.{sourceRanges};
 ghost use Rattle.consequence.specs.Call.{annotateSnv};
 ghost use Rattle.consequence.specs.Prepared.{Summed};
@@ -31,13 +31,12 @@ pub fn annotate_summed(
     cumulative_cds: &[u32],
     short: bool,
 ) -> Called
-    ghost { Transcript × Window }
-    requires { λ g.
-        let t = given model «exon_starts» «exon_ends» «seg_phases» «seg_exons» «seg_starts» «seg_ends» selenocysteine in
-        let w = windowGiven «window_chromosome» «window_first» window in
-        ⌜ g ≡ (t, w) ⌝ }
-    requires { λ (t, w). ⌜ Summed t (now «cumulative_exons») (now «cumulative_cds») short ⌝ }
-    ensures { λ (t, w) r. ⌜ r ≡ annotateSnv sourceRanges t w call ⌝ }
+    requires { let t = given model «exon_starts» «exon_ends» «seg_phases» «seg_exons» «seg_starts» «seg_ends» selenocysteine in
+        ⌜ Summed t (now «cumulative_exons») (now «cumulative_cds») short ⌝ }
+    ensures { λ r.
+        let t = wasGiven model «exon_starts» «exon_ends» «seg_phases» «seg_exons» «seg_starts» «seg_ends» selenocysteine in
+        let w = windowWasGiven «window_chromosome» «window_first» window in
+        ⌜ r ≡ annotateSnv sourceRanges t w call ⌝ }
 {
     let scalars = scalars_of(
         model,

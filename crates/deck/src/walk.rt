@@ -21,7 +21,9 @@ pub enum Walked {
 // A link outside the deck, to a wrong kind, or to a record already reached.
 fn bad_link(d: &[u8], kind: u8, to: usize, reached: &[u8; 4096]) -> bool
     requires { ⌜ length (now d) ≤ 65536 ⌝ }
-    ensures { λ r. ⌜ r ≡ (leb (recordCount (now d.entry)) to || not (eqb (kindOf (now d.entry) to) kind) || eqb (getD (now reached.entry) to 0) 1) ⌝ }
+    ensures { λ r.
+        let deck = now d.entry in
+        ⌜ r ≡ (leb (recordCount deck) to || not (eqb (kindOf deck to) kind) || eqb (getD (now reached.entry) to 0) 1) ⌝ }
 {
     if d.len() / 16 <= to {
         return true;

@@ -42,7 +42,9 @@ pub fn donor_spill(starts: &[u64], ends: &[u64], strand: Strand, i: usize, p: u6
     requires { ⌜ length (now starts) ≡ length (now ends) ⌝ }
     requires { ⌜ any badExon (exonsOf (now starts) (now ends)) ≡ false ⌝ }
     requires { ⌜ i + 1 < length (now starts) ⌝ }
-    ensures { λ r. ⌜ r ≡ spillsInto donorWindow (interval p (p + 1)) (getD (lentGaps strand (now starts.entry) (now ends.entry)) i (interval 0 0)) ⌝ }
+    ensures { λ r.
+        let gap = getD (lentGaps strand (now starts.entry) (now ends.entry)) i (interval 0 0) in
+        ⌜ r ≡ spillsInto donorWindow (interval p (p + 1)) gap ⌝ }
 {
     let gap = gap_after(starts, ends, strand, i);
     hits_donor(gap, p)
@@ -53,7 +55,9 @@ pub fn acceptor_spill(starts: &[u64], ends: &[u64], strand: Strand, i: usize, p:
     requires { ⌜ length (now starts) ≡ length (now ends) ⌝ }
     requires { ⌜ any badExon (exonsOf (now starts) (now ends)) ≡ false ⌝ }
     requires { ⌜ (i + 1 < length (now starts)) × (p ≤ top) ⌝ }
-    ensures { λ r. ⌜ r ≡ spillsInto acceptorWindow (interval p (p + 1)) (getD (lentGaps strand (now starts.entry) (now ends.entry)) i (interval 0 0)) ⌝ }
+    ensures { λ r.
+        let gap = getD (lentGaps strand (now starts.entry) (now ends.entry)) i (interval 0 0) in
+        ⌜ r ≡ spillsInto acceptorWindow (interval p (p + 1)) gap ⌝ }
 {
     let gap = gap_after(starts, ends, strand, i);
     hits_acceptor(gap, p)

@@ -15,7 +15,7 @@ use transcript::order::pad_of;
 ghost use mathlib.Core.Path.{_≡_};
 ghost use Prim.Native.Nat.{_+_, _≤_, _<_};
 ghost use lib.ListN.{length};
-ghost use Rattle.transcript.specs.Transcript.{Transcript, given};
+ghost use Rattle.transcript.specs.Transcript.{given, wasGiven};
 ghost use Rattle.transcript.specs.Admission.{admission};
 ghost use Rattle.deck.specs.Table.{InOrder, transcriptIn};
 ghost use Rattle.indexed.specs.TableIndex.{rowIndex, rowSums};
@@ -40,11 +40,12 @@ fn index_transcript(
     seg_ends: &[u64],
     selenocysteine: &[u64],
 ) -> RowIndex
-    ghost { Transcript }
-    requires { λ t. ⌜ t ≡ given model «exon_starts» «exon_ends» «seg_phases» «seg_exons» «seg_starts» «seg_ends» selenocysteine ⌝ }
-    requires { λ _. ⌜ (row + length (now «exon_starts») < «cds_row») × («cds_row» ≤ length (now sums)) ⌝ }
-    requires { λ t. ⌜ (admission t ≡ 0 → 0 < length (now «seg_starts») → «cds_row» + length (now «seg_starts») < length (now sums)) ⌝ }
-    ensures { λ t r. ⌜ (r ≡ rowIndex t) × (now sums.exit ≡ rowSums t row «cds_row» (now sums.entry)) ⌝ }
+    requires { let t = given model «exon_starts» «exon_ends» «seg_phases» «seg_exons» «seg_starts» «seg_ends» selenocysteine in
+        ⌜ (row + length (now «exon_starts») < «cds_row») × («cds_row» ≤ length (now sums)) ⌝
+        ∗ ⌜ (admission t ≡ 0 → 0 < length (now «seg_starts») → «cds_row» + length (now «seg_starts») < length (now sums)) ⌝ }
+    ensures { λ r.
+        let t = wasGiven model «exon_starts» «exon_ends» «seg_phases» «seg_exons» «seg_starts» «seg_ends» selenocysteine in
+        ⌜ (r ≡ rowIndex t) × (now sums.exit ≡ rowSums t row «cds_row» (now sums.entry)) ⌝ }
 {
     let admission = admit(
         model,

@@ -10,8 +10,8 @@ use transcript::question::refusal_number;
 use words::calls_fit;
 use words::put_called;
 ghost use mathlib.Core.Path.{_≡_};
-ghost use Rattle.transcript.specs.Transcript.{Transcript, given, wasGiven};
-ghost use Rattle.consequence.specs.Window.{Window, windowGiven, windowWasGiven};
+ghost use Rattle.transcript.specs.Transcript.{given, wasGiven};
+ghost use Rattle.consequence.specs.Window.{windowWasGiven};
 ghost use mathlib.Core.Bool.{true};
 ghost use Rattle.consequence.specs.Prepared.{Prepared};
 ghost use Rattle.words.specs.Lengths.{callsFit};
@@ -40,14 +40,12 @@ fn put_calls(
     selenocysteine_codons: &[u32; 64],
     out: &mut [i64],
 )
-    ghost { Transcript × Window }
-    requires { λ g.
-        let t = given model «exon_starts» «exon_ends» «seg_phases» «seg_exons» «seg_starts» «seg_ends» selenocysteine in
-        let w = windowGiven «window_chromosome» «window_first» window in
-        ⌜ g ≡ (t, w) ⌝ }
-    requires { λ (t, w). ⌜ Prepared t scalars (now «cumulative_exons») (now «cumulative_cds») (now «selenocysteine_codons») ⌝ }
-    requires { λ _. ⌜ callsFit (now chromosomes) (now positions) (now refs) (now alts) (now out) ≡ true ⌝ }
-    ensures { λ (t, w) _.
+    requires { let t = given model «exon_starts» «exon_ends» «seg_phases» «seg_exons» «seg_starts» «seg_ends» selenocysteine in
+        ⌜ Prepared t scalars (now «cumulative_exons») (now «cumulative_cds») (now «selenocysteine_codons») ⌝
+        ∗ ⌜ callsFit (now chromosomes) (now positions) (now refs) (now alts) (now out) ≡ true ⌝ }
+    ensures { λ _.
+        let t = wasGiven model «exon_starts» «exon_ends» «seg_phases» «seg_exons» «seg_starts» «seg_ends» selenocysteine in
+        let w = windowWasGiven «window_chromosome» «window_first» window in
         let calls = callsOf (now chromosomes.entry) (now positions.entry) (now refs.entry) (now alts.entry) in
         ⌜ now out.exit ≡ callsWords t w calls ⌝ }
 {

@@ -43,7 +43,9 @@ fn push_id(ids: &mut [u32], at: usize, id: u32) -> usize
 
 // The ids of the transcripts of a table.
 fn push_ids(kinds: &[u8; 4096], numbers: &[u32; 4096], ids: &mut [u32]) -> usize
-    ensures { λ r. ⌜ Pushed (now ids.entry) 0 (map (λ k. getD (now numbers.entry) k 0) (rowsFrom 4096 (now kinds.entry) 0)) (now ids.exit) r × (r ≤ 4096) ⌝ }
+    ensures { λ r.
+        let rows = rowsFrom 4096 (now kinds.entry) 0 in
+        ⌜ Pushed (now ids.entry) 0 (map (λ k. getD (now numbers.entry) k 0) rows) (now ids.exit) r × (r ≤ 4096) ⌝ }
 {
     let mut n = 0;
     let mut k = 0;

@@ -9,7 +9,7 @@ use transcript::question::refusal_number;
 use words::put_located;
 ghost use mathlib.Core.Path.{_≡_};
 ghost use lib.ListN.{length};
-ghost use Rattle.transcript.specs.Transcript.{Transcript, given, wasGiven};
+ghost use Rattle.transcript.specs.Transcript.{given, wasGiven};
 ghost use Prim.Native.Nat.{_*_};
 ghost use Rattle.interface.specs.Ready.{Ready};
 ghost use Rattle.interface.specs.Lists.{placesWords, PlacesAnswered};
@@ -30,11 +30,12 @@ fn put_places(
     cumulative_exons: &[u32],
     out: &mut [i64],
 )
-    ghost { Transcript }
-    requires { λ t. ⌜ t ≡ given model «exon_starts» «exon_ends» «seg_phases» «seg_exons» «seg_starts» «seg_ends» selenocysteine ⌝ }
-    requires { λ t. ⌜ Ready t scalars (now «cumulative_exons») ⌝ }
-    requires { λ _. ⌜ length (now out) ≡ 8 * length (now positions) ⌝ }
-    ensures { λ t _. ⌜ now out.exit ≡ placesWords t chromosome (now positions.entry) ⌝ }
+    requires { let t = given model «exon_starts» «exon_ends» «seg_phases» «seg_exons» «seg_starts» «seg_ends» selenocysteine in
+        ⌜ Ready t scalars (now «cumulative_exons») ⌝
+        ∗ ⌜ length (now out) ≡ 8 * length (now positions) ⌝ }
+    ensures { λ _.
+        let t = wasGiven model «exon_starts» «exon_ends» «seg_phases» «seg_exons» «seg_starts» «seg_ends» selenocysteine in
+        ⌜ now out.exit ≡ placesWords t chromosome (now positions.entry) ⌝ }
 {
     let mut i = 0;
     while i < positions.len() {

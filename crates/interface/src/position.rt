@@ -5,7 +5,7 @@ use locate::place::place_of_base;
 use transcript::TranscriptModel;
 use transcript::question::base_of;
 ghost use mathlib.Core.Path.{_≡_};
-ghost use Rattle.transcript.specs.Transcript.{Transcript, given};
+ghost use Rattle.transcript.specs.Transcript.{given, wasGiven};
 ghost use Rattle.footprint.specs.Ranges.{sourceRanges};
 ghost use Rattle.locate.specs.Query.{locatePosition};
 ghost use Rattle.interface.specs.Ready.{Ready};
@@ -28,10 +28,11 @@ pub(crate) fn locate_position(
     scalars: IndexScalars,
     cumulative_exons: &[u32],
 ) -> Located
-    ghost { Transcript }
-    requires { λ t. ⌜ t ≡ given model «exon_starts» «exon_ends» «seg_phases» «seg_exons» «seg_starts» «seg_ends» selenocysteine ⌝ }
-    requires { λ t. ⌜ Ready t scalars (now «cumulative_exons») ⌝ }
-    ensures { λ t r. ⌜ r ≡ locatePosition sourceRanges t chromosome p ⌝ }
+    requires { let t = given model «exon_starts» «exon_ends» «seg_phases» «seg_exons» «seg_starts» «seg_ends» selenocysteine in
+        ⌜ Ready t scalars (now «cumulative_exons») ⌝ }
+    ensures { λ r.
+        let t = wasGiven model «exon_starts» «exon_ends» «seg_phases» «seg_exons» «seg_starts» «seg_ends» selenocysteine in
+        ⌜ r ≡ locatePosition sourceRanges t chromosome p ⌝ }
 {
     if QUERY_LIMIT <= p {
         return Located::Refused(15);

@@ -81,7 +81,9 @@ fn push_answer(out: &mut [u8], number: u64, id: u64, x: ConsequenceResult) -> us
 
 // The line of an answered call in a buffer of any length: measured first, then put, or 28.
 fn write_measured(out: &mut [u8], number: u64, id: u64, x: ConsequenceResult) -> Written
-    ensures { λ r. ⌜ (r ≡ writeAnswer (now out.entry) (answerLine number id x)) × (now out.exit ≡ writtenTo (now out.entry) (answerLine number id x)) ⌝ }
+    ensures { λ r.
+        let line = answerLine number id x in
+        ⌜ (r ≡ writeAnswer (now out.entry) line) × (now out.exit ≡ writtenTo (now out.entry) line) ⌝ }
 {
     let n = push_answer(&mut out[..0], number, id, x);
     if out.len() < n {
@@ -93,7 +95,9 @@ fn write_measured(out: &mut [u8], number: u64, id: u64, x: ConsequenceResult) ->
 
 // The line of an answered call, or 28 where it does not fit. No line has over 1553 bytes.
 pub fn write_answer(out: &mut [u8], number: u64, id: u64, x: ConsequenceResult) -> Written
-    ensures { λ r. ⌜ (r ≡ writeAnswer (now out.entry) (answerLine number id x)) × (now out.exit ≡ writtenTo (now out.entry) (answerLine number id x)) ⌝ }
+    ensures { λ r.
+        let line = answerLine number id x in
+        ⌜ (r ≡ writeAnswer (now out.entry) line) × (now out.exit ≡ writtenTo (now out.entry) line) ⌝ }
 {
     if out.len() < 1553 {
         return write_measured(out, number, id, x);

@@ -31,7 +31,9 @@ fn push_refusal(out: &mut [u8], a: u64, b: u64, c: u64) -> usize
 
 // The line of a refusal in a buffer of any length: measured first, then put, or 28.
 fn write_measured(out: &mut [u8], a: u64, b: u64, c: u64) -> Written
-    ensures { λ r. ⌜ (r ≡ writeAnswer (now out.entry) (refusalLine a b c)) × (now out.exit ≡ writtenTo (now out.entry) (refusalLine a b c)) ⌝ }
+    ensures { λ r.
+        let line = refusalLine a b c in
+        ⌜ (r ≡ writeAnswer (now out.entry) line) × (now out.exit ≡ writtenTo (now out.entry) line) ⌝ }
 {
     let n = push_refusal(&mut out[..0], a, b, c);
     if out.len() < n {
@@ -43,7 +45,9 @@ fn write_measured(out: &mut [u8], a: u64, b: u64, c: u64) -> Written
 
 // The line of a refusal, or 28 where it does not fit. No such line has over 63 bytes.
 pub fn write_refusal(out: &mut [u8], a: u64, b: u64, c: u64) -> Written
-    ensures { λ r. ⌜ (r ≡ writeAnswer (now out.entry) (refusalLine a b c)) × (now out.exit ≡ writtenTo (now out.entry) (refusalLine a b c)) ⌝ }
+    ensures { λ r.
+        let line = refusalLine a b c in
+        ⌜ (r ≡ writeAnswer (now out.entry) line) × (now out.exit ≡ writtenTo (now out.entry) line) ⌝ }
 {
     if out.len() < 63 {
         return write_measured(out, a, b, c);

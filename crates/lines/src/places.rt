@@ -66,8 +66,9 @@ pub(crate) fn place_kind(place: VariantLocation) -> u8
 }
 
 // The names one behind the other, and where each ends.
-const PLACE_NAMES: [u8; 143] =
-    *b"UpstreamDownstreamDistalFivePrimeUtrCdsExonThreePrimeUtrSpliceDonorSpliceAcceptorSpliceRegionIntronFrameshiftIntronNonCodingExonNonCodingIntron";
+const PLACE_NAMES: [u8; 143] = *b"UpstreamDownstreamDistalFivePrimeUtrCdsExonThreePrimeUtr\
+SpliceDonorSpliceAcceptorSpliceRegionIntronFrameshiftIntron\
+NonCodingExonNonCodingIntron";
 
 const PLACE_ENDS: [u16; 14] = [0, 8, 18, 24, 36, 43, 56, 67, 81, 93, 99, 115, 128, 143];
 

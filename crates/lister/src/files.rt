@@ -12,7 +12,7 @@ pub(crate) fn room() -> [u8; 65537]
 
 // The bytes of an open file at the start of `into`, as many as fit. Reading once more tells its end from a failure.
 pub(crate) fn read_to_end(fd: i32, name: &[u8], into: &mut [u8]) -> usize
-    ensures { λ r. ⌜ Counts r (now (into .exit)) ⌝ }
+    ensures { λ r. ⌜ Counts r (now into.exit) ⌝ }
 {
     let n = io::read_full(fd, into);
     if n == into.len() {
@@ -28,7 +28,7 @@ pub(crate) fn read_to_end(fd: i32, name: &[u8], into: &mut [u8]) -> usize
 
 // The bytes of a file at the start of `into`, as many as fit.
 pub(crate) fn read_file(path: &[u8], into: &mut [u8]) -> usize
-    ensures { λ r. ⌜ Counts r (now (into .exit)) ⌝ }
+    ensures { λ r. ⌜ Counts r (now into.exit) ⌝ }
 {
     let fd = os::open_read(path);
     if fd < 0 {

@@ -16,7 +16,7 @@ ghost use lib.ListN.{length};
 
 // Writes the bytes, and answers whether there were some and all are written.
 fn flush(bytes: &[u8]) -> bool
-    ensures { λ r. ⌜ (r ≡ true → 0 < length (now (bytes .entry))) ⌝ }
+    ensures { λ r. ⌜ (r ≡ true → 0 < length (now bytes.entry)) ⌝ }
 {
     if bytes.len() == 0 {
         return false;
@@ -30,7 +30,7 @@ fn flush(bytes: &[u8]) -> bool
 
 // Where the bases of a window file begin.
 fn bases_from(window: &[u8]) -> usize
-    ensures { λ r. ⌜ r ≤ length (now (window .entry)) ⌝ }
+    ensures { λ r. ⌜ r ≤ length (now window.entry) ⌝ }
 {
     if window.len() < 10 {
         return 0;

@@ -21,7 +21,7 @@ ghost use Prim.Native.Nat.{_≤_};
 ghost use lib.ListN.{length};
 ghost use Rattle.transcript.specs.Limits.{top};
 ghost use Rattle.footprint.specs.Ranges.{sourceRanges};
-ghost use Rattle.transcript.specs.Transcript.{Transcript, given};
+ghost use Rattle.transcript.specs.Transcript.{given, wasGiven};
 ghost use Rattle.transcript.specs.Orient.{interval, oriented};
 ghost use Rattle.transcript.specs.Admission.{admission};
 ghost use Rattle.locate.specs.Place.{isExonicSpliceRegion, exonic, locate};
@@ -42,11 +42,11 @@ pub(crate) fn exon_alone(
     end: u64,
     p: u64,
 ) -> VariantLocation
-    ghost { Transcript }
-    requires { λ t. ⌜ t ≡ given model «exon_starts» «exon_ends» «seg_phases» «seg_exons» «seg_starts» «seg_ends» selenocysteine ⌝ }
-    requires { λ t. ⌜ admission t ≡ 0 ⌝ }
-    requires { λ t. ⌜ Holds (oriented t) i start end p ⌝ }
-    ensures { λ t r.
+    requires { let t = given model «exon_starts» «exon_ends» «seg_phases» «seg_exons» «seg_starts» «seg_ends» selenocysteine in
+        ⌜ admission t ≡ 0 ⌝
+        ∗ ⌜ Holds (oriented t) i start end p ⌝ }
+    ensures { λ r.
+        let t = wasGiven model «exon_starts» «exon_ends» «seg_phases» «seg_exons» «seg_starts» «seg_ends» selenocysteine in
         let mark = isExonicSpliceRegion (length (oriented t .exons)) i (interval start end) p in
         ⌜ r ≡ exonic (oriented t) p i mark ⌝ }
 {
@@ -96,11 +96,12 @@ pub(crate) fn place_alone(
     selenocysteine: &[u64],
     p: u64,
 ) -> VariantLocation
-    ghost { Transcript }
-    requires { λ t. ⌜ t ≡ given model «exon_starts» «exon_ends» «seg_phases» «seg_exons» «seg_starts» «seg_ends» selenocysteine ⌝ }
-    requires { λ t. ⌜ admission t ≡ 0 ⌝ }
-    requires { λ _. ⌜ p ≤ top ⌝ }
-    ensures { λ t r. ⌜ r ≡ locate sourceRanges (oriented t) p ⌝ }
+    requires { let t = given model «exon_starts» «exon_ends» «seg_phases» «seg_exons» «seg_starts» «seg_ends» selenocysteine in
+        ⌜ admission t ≡ 0 ⌝
+        ∗ ⌜ p ≤ top ⌝ }
+    ensures { λ r.
+        let t = wasGiven model «exon_starts» «exon_ends» «seg_phases» «seg_exons» «seg_starts» «seg_ends» selenocysteine in
+        ⌜ r ≡ locate sourceRanges (oriented t) p ⌝ }
 {
     let strand = model.strand;
     let s = model.tx_start;

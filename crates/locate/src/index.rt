@@ -15,7 +15,7 @@ ghost use mathlib.Core.Bool.{cond};
 ghost use Prim.Native.Nat.{_+_, _-_, _≤_};
 ghost use lib.Dec.{ltb};
 ghost use Rattle.transcript.specs.Limits.{maxExons};
-ghost use Rattle.transcript.specs.Transcript.{Transcript, given};
+ghost use Rattle.transcript.specs.Transcript.{given, wasGiven};
 ghost use Rattle.transcript.specs.Orient.{oriented};
 ghost use Rattle.transcript.specs.Admission.{admission};
 ghost use Rattle.common.specs.Lists.{any};
@@ -50,12 +50,13 @@ pub fn scalars_of(
     cumulative_cds: &[u32],
     short: bool,
 ) -> IndexScalars
-    ghost { Transcript }
-    requires { λ t. ⌜ t ≡ given model «exon_starts» «exon_ends» «seg_phases» «seg_exons» «seg_starts» «seg_ends» selenocysteine ⌝ }
-    requires { λ t. ⌜ admission t ≡ 0 ⌝ }
-    requires { λ t. ⌜ ExonSums (oriented t) (now «cumulative_exons») × CdsSums (oriented t) (now «cumulative_cds») ⌝ }
-    requires { λ _. ⌜ short ≡ any isFrameshiftGap (gaps (lentExons (model .strand) (now «exon_starts») (now «exon_ends»))) ⌝ }
-    ensures { λ t r. ⌜ r ≡ indexScalars (oriented t) ⌝ }
+    requires { let t = given model «exon_starts» «exon_ends» «seg_phases» «seg_exons» «seg_starts» «seg_ends» selenocysteine in
+        ⌜ admission t ≡ 0 ⌝
+        ∗ ⌜ ExonSums (oriented t) (now «cumulative_exons») × CdsSums (oriented t) (now «cumulative_cds») ⌝
+        ∗ ⌜ short ≡ any isFrameshiftGap (gaps (lentExons (model .strand) (now «exon_starts») (now «exon_ends»))) ⌝ }
+    ensures { λ r.
+        let t = wasGiven model «exon_starts» «exon_ends» «seg_phases» «seg_exons» «seg_starts» «seg_ends» selenocysteine in
+        ⌜ r ≡ indexScalars (oriented t) ⌝ }
 {
     let strand = model.strand;
     let cds = model.cds;
@@ -96,10 +97,11 @@ pub fn index_of(
     seg_ends: &[u64],
     selenocysteine: &[u64],
 ) -> LocateIndex
-    ghost { Transcript }
-    requires { λ t. ⌜ t ≡ given model «exon_starts» «exon_ends» «seg_phases» «seg_exons» «seg_starts» «seg_ends» selenocysteine ⌝ }
-    requires { λ t. ⌜ admission t ≡ 0 ⌝ }
-    ensures { λ t r. ⌜ r ≡ locateIndex (oriented t) ⌝ }
+    requires { let t = given model «exon_starts» «exon_ends» «seg_phases» «seg_exons» «seg_starts» «seg_ends» selenocysteine in
+        ⌜ admission t ≡ 0 ⌝ }
+    ensures { λ r.
+        let t = wasGiven model «exon_starts» «exon_ends» «seg_phases» «seg_exons» «seg_starts» «seg_ends» selenocysteine in
+        ⌜ r ≡ locateIndex (oriented t) ⌝ }
 {
     let strand = model.strand;
     let mut cumulative_exons = [0u32; 513];

@@ -17,7 +17,7 @@ ghost use Prim.Native.Nat.{_+_, _-_, _≤_, _<_};
 ghost use lib.ListN.{length};
 ghost use Rattle.transcript.specs.Limits.{top};
 ghost use Rattle.footprint.specs.Ranges.{sourceRanges};
-ghost use Rattle.transcript.specs.Transcript.{Transcript, given};
+ghost use Rattle.transcript.specs.Transcript.{given, wasGiven};
 ghost use Rattle.transcript.specs.Orient.{interval, oriented};
 ghost use Rattle.transcript.specs.Admission.{admission};
 ghost use Rattle.locate.specs.Index.{indexScalars};
@@ -60,12 +60,12 @@ pub(crate) fn exon_base(
     end: u64,
     p: u64,
 ) -> VariantLocation
-    ghost { Transcript }
-    requires { λ t. ⌜ t ≡ given model «exon_starts» «exon_ends» «seg_phases» «seg_exons» «seg_starts» «seg_ends» selenocysteine ⌝ }
-    requires { λ t. ⌜ admission t ≡ 0 ⌝ }
-    requires { λ t. ⌜ (scalars ≡ indexScalars (oriented t)) × ExonSums (oriented t) (now «cumulative_exons») ⌝ }
-    requires { λ t. ⌜ Holds (oriented t) i start end p ⌝ }
-    ensures { λ t r.
+    requires { let t = given model «exon_starts» «exon_ends» «seg_phases» «seg_exons» «seg_starts» «seg_ends» selenocysteine in
+        ⌜ admission t ≡ 0 ⌝
+        ∗ ⌜ (scalars ≡ indexScalars (oriented t)) × ExonSums (oriented t) (now «cumulative_exons») ⌝
+        ∗ ⌜ Holds (oriented t) i start end p ⌝ }
+    ensures { λ r.
+        let t = wasGiven model «exon_starts» «exon_ends» «seg_phases» «seg_exons» «seg_starts» «seg_ends» selenocysteine in
         let mark = isExonicSpliceRegion (length (oriented t .exons)) i (interval start end) p in
         ⌜ r ≡ exonic (oriented t) p i mark ⌝ }
 {
@@ -110,12 +110,13 @@ pub fn place_of_base(
     cumulative_exons: &[u32],
     p: u64,
 ) -> VariantLocation
-    ghost { Transcript }
-    requires { λ t. ⌜ t ≡ given model «exon_starts» «exon_ends» «seg_phases» «seg_exons» «seg_starts» «seg_ends» selenocysteine ⌝ }
-    requires { λ t. ⌜ admission t ≡ 0 ⌝ }
-    requires { λ t. ⌜ (scalars ≡ indexScalars (oriented t)) × ExonSums (oriented t) (now «cumulative_exons») ⌝ }
-    requires { λ _. ⌜ p ≤ top ⌝ }
-    ensures { λ t r. ⌜ r ≡ locate sourceRanges (oriented t) p ⌝ }
+    requires { let t = given model «exon_starts» «exon_ends» «seg_phases» «seg_exons» «seg_starts» «seg_ends» selenocysteine in
+        ⌜ admission t ≡ 0 ⌝
+        ∗ ⌜ (scalars ≡ indexScalars (oriented t)) × ExonSums (oriented t) (now «cumulative_exons») ⌝
+        ∗ ⌜ p ≤ top ⌝ }
+    ensures { λ r.
+        let t = wasGiven model «exon_starts» «exon_ends» «seg_phases» «seg_exons» «seg_starts» «seg_ends» selenocysteine in
+        ⌜ r ≡ locate sourceRanges (oriented t) p ⌝ }
 {
     let strand = model.strand;
     let s = model.tx_start;

@@ -9,7 +9,7 @@ ghost use lib.ListN.{length, replicate};
 ghost use lib.Seq.{sets};
 ghost use Rattle.common.specs.Lists.{any};
 ghost use Rattle.transcript.specs.Limits.{top};
-ghost use Rattle.transcript.specs.Transcript.{exonsOf, Transcript, given};
+ghost use Rattle.transcript.specs.Transcript.{exonsOf, given, wasGiven};
 ghost use Rattle.transcript.specs.Orient.{oriented};
 ghost use Rattle.transcript.specs.Admission.{badExon, admission};
 ghost use Rattle.locate.specs.Index.{cumulative, locateIndex};
@@ -21,7 +21,9 @@ pub fn store_sums(sums: &mut [u32], at: usize, starts: &[u64], ends: &[u64], fir
     requires { ⌜ (length (now starts) ≡ length (now ends)) × (at + length (now starts) < length (now sums)) ⌝ }
     requires { ⌜ any badExon (exonsOf (now starts) (now ends)) ≡ false ⌝ }
     requires { ⌜ first + sum (map exonSize (exonsOf (now starts) (now ends))) ≤ 2 + top ⌝ }
-    ensures { λ _. ⌜ now sums.exit ≡ sets (now sums.entry) at (cumulative first (map exonSize (exonsOf (now starts.entry) (now ends.entry)))) ⌝ }
+    ensures { λ _.
+        let lengths = map exonSize (exonsOf (now starts.entry) (now ends.entry)) in
+        ⌜ now sums.exit ≡ sets (now sums.entry) at (cumulative first lengths) ⌝ }
 {
     let mut acc = first;
     let mut i = 0;
@@ -48,14 +50,14 @@ pub fn sum_up(
     seg_ends: &[u64],
     selenocysteine: &[u64],
 )
-    ghost { Transcript }
-    requires { λ t. ⌜ t ≡ given model «exon_starts» «exon_ends» «seg_phases» «seg_exons» «seg_starts» «seg_ends» selenocysteine ⌝ }
-    requires { λ _. ⌜ (now «cumulative_exons» ≡ replicate 513 0) × (now «cumulative_cds» ≡ replicate 513 0) ⌝ }
-    requires { λ t. ⌜ admission t ≡ 0 ⌝ }
-    ensures { λ t _.
+    requires { let t = given model «exon_starts» «exon_ends» «seg_phases» «seg_exons» «seg_starts» «seg_ends» selenocysteine in
+        ⌜ (now «cumulative_exons» ≡ replicate 513 0) × (now «cumulative_cds» ≡ replicate 513 0) ⌝
+        ∗ ⌜ admission t ≡ 0 ⌝ }
+    ensures { λ _.
+        let t = wasGiven model «exon_starts» «exon_ends» «seg_phases» «seg_exons» «seg_starts» «seg_ends» selenocysteine in
         let x = locateIndex (oriented t) in
         ⌜ (now «cumulative_exons».exit ≡ x .«cumulative_exons») × (now «cumulative_cds».exit ≡ x .«cumulative_cds») ⌝ }
-    ensures { λ _ _. ⌜ (length (now «cumulative_exons».exit) ≡ 513) × (length (now «cumulative_cds».exit) ≡ 513) ⌝ }
+    ensures { λ _. ⌜ (length (now «cumulative_exons».exit) ≡ 513) × (length (now «cumulative_cds».exit) ≡ 513) ⌝ }
 {
     let pad = pad_of(seg_phases) as u32;
     store_sums(cumulative_exons, 0, exon_starts, exon_ends, 0);

@@ -93,7 +93,7 @@ pub fn name_byte(rank: u32, i: usize) -> u8
 // That name, put into a lent buffer from a position on; the position behind it.
 pub fn push_name(out: &mut [u8], at: usize, rank: u32) -> usize
     requires { ⌜ at + 64 < 2 ^ 64 ⌝ }
-    ensures { λ r. ⌜ Pushed (now (out .entry)) at (termName rank) (now (out .exit)) r ⌝ }
+    ensures { λ r. ⌜ Pushed (now out.entry) at (termName rank) (now out.exit) r ⌝ }
 {
     let n = name_length(rank);
     if n == 0 {

@@ -17,7 +17,7 @@ fn cut_off() -> usize
 // Reads the next block to the front of `block`, and gives its length, 0 where there is none.
 pub(crate) fn next_block(block: &mut [u8]) -> usize
     requires { ⌜ length (now block) ≡ 65536 ⌝ }
-    ensures { λ r. ⌜ (r ≤ 65536) × (length (now (block .exit)) ≡ 65536) ⌝ }
+    ensures { λ r. ⌜ (r ≤ 65536) × (length (now block.exit) ≡ 65536) ⌝ }
 {
     let mut size = [0u8; 4];
     let got = io::read_full(STDIN_FILENO, &mut size);

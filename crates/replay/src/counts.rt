@@ -11,8 +11,11 @@ pub(crate) struct Counts {
 
 // Adds n to the count of the kind, which an unknown one has not; `blocks` were counted before.
 pub(crate) fn raise(counts: &mut [u64; 4], kind: u64, n: u64, blocks: u64)
-    requires { ⌜ (length (now counts) ≡ 4) × (n ≤ 4096) × (blocks ≤ 1000000000) × ((k : ℕ) → getD (now counts) k 0 ≤ 4096 * blocks) ⌝ }
-    ensures { λ _. ⌜ (length (now (counts .exit)) ≡ 4) × ((k : ℕ) → getD (now (counts .exit)) k 0 ≤ 4096 * (blocks + 1)) ⌝ }
+    requires { ⌜ (length (now counts) ≡ 4)
+        × (n ≤ 4096)
+        × (blocks ≤ 1000000000)
+        × ((k : ℕ) → getD (now counts) k 0 ≤ 4096 * blocks) ⌝ }
+    ensures { λ _. ⌜ (length (now counts.exit) ≡ 4) × ((k : ℕ) → getD (now counts.exit) k 0 ≤ 4096 * (blocks + 1)) ⌝ }
 {
     if kind >= 4 {
         return;

@@ -61,7 +61,12 @@ fn model_of(b: &[u8]) -> TranscriptModel {
 
 // Lists longer than the limits are cut to them.
 pub(crate) fn head_of(b: &[u8]) -> Head
-    ensures { λ r. ⌜ (r .exons ≤ 512) × (r .segments ≤ 512) × (r .bases ≤ 64) × (r .«segments_at» ≤ 5000) × (r .«bases_at» ≤ 11000) × (r .end ≤ 12000) ⌝ }
+    ensures { λ r. ⌜ (r .exons ≤ 512)
+        × (r .segments ≤ 512)
+        × (r .bases ≤ 64)
+        × (r .«segments_at» ≤ 5000)
+        × (r .«bases_at» ≤ 11000)
+        × (r .end ≤ 12000) ⌝ }
 {
     let model = model_of(b);
     let exons = least(u16_at(b, 10), 512);

@@ -14,7 +14,7 @@ pub(crate) fn room() -> [u8; 65553]
 
 // Reads the next n bytes to the front of `into`, and gives how many it read: none where they do not fit.
 pub(crate) fn read_part(into: &mut [u8], n: usize) -> usize
-    ensures { λ r. ⌜ Counts r (now (into .exit)) ⌝ }
+    ensures { λ r. ⌜ Counts r (now into.exit) ⌝ }
     ensures { λ r. ⌜ r ≤ n ⌝ }
 {
     if into.len() < n {

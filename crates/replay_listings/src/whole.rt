@@ -15,7 +15,7 @@ ghost use lib.ListN.{length};
 
 // Where the bases of a window file begin.
 fn bases_from(window: &[u8]) -> usize
-    ensures { λ r. ⌜ r ≤ length (now (window .entry)) ⌝ }
+    ensures { λ r. ⌜ r ≤ length (now window.entry) ⌝ }
 {
     if window.len() < 10 {
         return 0;

@@ -96,7 +96,7 @@ fn row_lacks(rank: u32) -> u64
 // One past the newline that ends the row at `at`, or the text's end.
 fn row_end(text: &[u8], at: usize) -> usize
     requires { ⌜ at < length (now text) ⌝ }
-    ensures { λ r. ⌜ (at < r) × (r ≤ length (now (text .entry))) ⌝ }
+    ensures { λ r. ⌜ (at < r) × (r ≤ length (now text.entry)) ⌝ }
 {
     let mut i = at;
     while i < text.len() {

@@ -42,7 +42,9 @@ pub(crate) fn is_cut(
 ) -> bool
     requires { ⌜ (length (now starts) ≡ length (now indexes)) × (length (now starts) ≡ length (now ends)) × (k < length (now indexes)) ⌝ }
     requires { ⌜ any badExon (exonsOf (now starts) (now ends)) ≡ false ⌝ }
-    ensures { λ r. ⌜ r ≡ sameCut (cutAt (getD (now indexes.entry) k 0) (orient strand (getD (now starts.entry) k 0) (getD (now ends.entry) k 0))) (cutAt i (interval lo hi)) ⌝ }
+    ensures { λ r.
+        let segment = orient strand (getD (now starts.entry) k 0) (getD (now ends.entry) k 0) in
+        ⌜ r ≡ sameCut (cutAt (getD (now indexes.entry) k 0) segment) (cutAt i (interval lo hi)) ⌝ }
 {
     let x = indexes[k] as usize;
     if x != i {

@@ -145,7 +145,9 @@ pub(crate) fn bad_coordinates(
 ) -> bool
     requires { ⌜ length (now «exon_starts») ≡ length (now «exon_ends») ⌝ }
     requires { ⌜ length (now «seg_starts») ≡ length (now «seg_ends») ⌝ }
-    ensures { λ r. ⌜ r ≡ badListed model (now «exon_starts».entry) (now «exon_ends».entry) (now «seg_starts».entry) (now «seg_ends».entry) (now bases.entry) ⌝ }
+    ensures { λ r. ⌜ r ≡ badListed model
+        (now «exon_starts».entry) (now «exon_ends».entry)
+        (now «seg_starts».entry) (now «seg_ends».entry) (now bases.entry) ⌝ }
 {
     if bad_edges(exon_starts, exon_ends) {
         return true;

@@ -48,7 +48,9 @@ pub(crate) fn bad_bounds(
     requires { ⌜ 0 < length (now starts) ⌝ }
     requires { ⌜ any badExon (exonsOf (now starts) (now ends)) ≡ false ⌝ }
     requires { ⌜ («tx_start» ≤ coordinateLimit) × («tx_end» ≤ coordinateLimit) ⌝ }
-    ensures { λ r. ⌜ r ≡ notOuter (orient strand «tx_start» «tx_end») (map (orientExon strand) (exonsOf (now starts.entry) (now ends.entry))) ⌝ }
+    ensures { λ r.
+        let exons = map (orientExon strand) (exonsOf (now starts.entry) (now ends.entry)) in
+        ⌜ r ≡ notOuter (orient strand «tx_start» «tx_end») exons ⌝ }
 {
     let s = starts[0];
     let e = ends[0];

@@ -10,7 +10,8 @@ ghost use Prim.Native.Nat.{_+_, _*_, _≤_};
 ghost use mathlib.Core.Path.{_≡_};
 ghost use lib.ListN.{length};
 ghost use lib.Seq.{sets};
-ghost use Rattle.words.specs.CallWords.{numberOf, totalOf, countOf, codonWord, referenceWord, alteredWord, changedPlace, lettersWord, columnWords};
+ghost use Rattle.words.specs.CallWords.{numberOf, totalOf, countOf, codonWord, referenceWord, alteredWord};
+ghost use Rattle.words.specs.CallWords.{changedPlace, lettersWord, columnWords};
 
 fn number_of(n: Numbered) -> u32
     ensures { λ r. ⌜ r ≡ numberOf n ⌝ }

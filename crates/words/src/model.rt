@@ -38,7 +38,9 @@ pub fn model_of(
     cds_end: u64,
     start_complete: bool,
 ) -> TranscriptModel
-    ensures { λ r. ⌜ r ≡ modelOf id chromosome minus «exon_count» «tx_start» «tx_end» «has_cds» «cds_start» «cds_end» «start_complete» ⌝ }
+    ensures { λ r. ⌜ r ≡ modelOf id chromosome minus
+        «exon_count» «tx_start» «tx_end»
+        «has_cds» «cds_start» «cds_end» «start_complete» ⌝ }
 {
     let strand = strand_of(minus);
     let cds = bounds_of(has_cds, cds_start, cds_end);
