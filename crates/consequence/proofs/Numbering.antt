@@ -8,7 +8,7 @@ use borrow.Author.Tests.{eqb-true}
 use Rattle.common.specs.Refuse.{refuse}
 use Rattle.common.proofs.TestParts.{on-test}
 use Rattle.transcript.specs.Transcript.{Transcript}
-use Rattle.footprint.specs.Ranges.{Ranges}
+use Rattle.footprint.specs.declared.Ranges.{Ranges}
 use Rattle.consequence.specs.declared.FetchedCodon.{FetchedCodon}
 use Rattle.consequence.specs.declared.Call.{Call}
 use Rattle.consequence.specs.Window.{Window, inWindow, baseAt}

@@ -12,7 +12,8 @@ use Rattle.common.proofs.TestParts.{on-test}
 use Rattle.transcript.specs.Orient.{Interval, Oriented}
 use Rattle.transcript.specs.Bases.{firstStart, lastEnd}
 use Rattle.transcript.proofs.Listed.{nowhere}
-use Rattle.footprint.specs.Ranges.{Ranges, spliceCanonicalMax, frameshiftIntronMaxGap}
+use Rattle.footprint.specs.declared.Ranges.{Ranges}
+use Rattle.footprint.specs.Ranges.{spliceCanonicalMax, frameshiftIntronMaxGap}
 use Rattle.locate.specs.declared.VariantLocation.{VariantLocation}
 use Rattle.locate.specs.declared.VariantLocation.the-variants.{Upstream, Downstream, Distal, FivePrimeUtr, CdsExon, ThreePrimeUtr, SpliceDonor, SpliceAcceptor, SpliceRegion, Intron, FrameshiftIntron, NonCodingExon, NonCodingIntron}
 use Rattle.locate.specs.Find.{Found, inExon, inIntron, outside, findAfter, findExonOrIntron}

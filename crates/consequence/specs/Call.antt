@@ -6,7 +6,7 @@ use Rattle.common.specs.Refuse.{refuse, orElse}
 use Rattle.codon.specs.Bases.{isBase}
 use Rattle.footprint.specs.declared.SpliceSpill.{SpliceSpill}
 use Rattle.locate.specs.declared.VariantLocation.{VariantLocation}
-use Rattle.footprint.specs.Ranges.{Ranges}
+use Rattle.footprint.specs.declared.Ranges.{Ranges}
 use Rattle.transcript.specs.Limits.{mitochondrial}
 use Rattle.transcript.specs.Transcript.{Transcript}
 use Rattle.transcript.specs.Orient.{interval, orientBase, oriented}

@@ -8,7 +8,7 @@ use Rattle.common.proofs.TestParts.{and-true}
 use Rattle.transcript.specs.declared.Strand.{Strand}
 use Rattle.footprint.specs.declared.SpliceSpill.{SpliceSpill}
 use Rattle.locate.specs.declared.VariantLocation.{VariantLocation}
-use Rattle.footprint.specs.Ranges.{Ranges}
+use Rattle.footprint.specs.declared.Ranges.{Ranges}
 use Rattle.transcript.specs.Transcript.{Transcript}
 use Rattle.transcript.specs.Orient.{interval, orientBase, oriented}
 use Rattle.transcript.specs.Bases.{firstStart, lastEnd}

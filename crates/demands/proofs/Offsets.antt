@@ -16,7 +16,7 @@ use Rattle.transcript.specs.declared.Strand.the-variants.{Plus, Minus}
 use Rattle.transcript.specs.declared.CdsSegment.{CdsSegment}
 use Rattle.locate.specs.declared.VariantLocation.{VariantLocation}
 use Rattle.locate.specs.declared.Located.{Located}
-use Rattle.footprint.specs.Ranges.{Ranges}
+use Rattle.footprint.specs.declared.Ranges.{Ranges}
 use Rattle.transcript.specs.Limits.{coordinateLimit, top}
 use Rattle.transcript.specs.Transcript.{Transcript, padOf}
 use Rattle.transcript.specs.Orient.{interval, orient, orientBase, orientSegment, oriented}

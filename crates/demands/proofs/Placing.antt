@@ -6,7 +6,7 @@ use native.Mathlib.Omega.{arith}
 use lib.ListN.{length}
 use borrow.Author.Tests.{le-ltb, lt-leb}
 use Rattle.locate.specs.declared.VariantLocation.{VariantLocation}
-use Rattle.footprint.specs.Ranges.{Ranges}
+use Rattle.footprint.specs.declared.Ranges.{Ranges}
 use Rattle.transcript.specs.Orient.{Interval, Oriented}
 use Rattle.transcript.specs.Bases.{totalSize, firstStart, lastEnd}
 use Rattle.locate.specs.Find.{Found, inExon, inIntron, outside, findExonOrIntron}

@@ -11,7 +11,7 @@ use Rattle.transcript.specs.declared.Strand.the-variants.{Plus, Minus}
 use Rattle.transcript.specs.declared.CdsSegment.{CdsSegment}
 use Rattle.locate.specs.declared.VariantLocation.{VariantLocation}
 use Rattle.locate.specs.declared.Located.{Located}
-use Rattle.footprint.specs.Ranges.{Ranges}
+use Rattle.footprint.specs.declared.Ranges.{Ranges}
 use Rattle.transcript.specs.Limits.{coordinateLimit}
 use Rattle.transcript.specs.Transcript.{Transcript, padOf}
 use Rattle.transcript.specs.Orient.{orientBase, oriented}

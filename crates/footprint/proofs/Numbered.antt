@@ -13,7 +13,7 @@ use Rattle.transcript.specs.Question.{intervalRefusal}
 use Rattle.footprint.specs.declared.Flanked.{Flanked}
 use Rattle.footprint.specs.declared.Endpoint.{Endpoint}
 use Rattle.footprint.specs.declared.Spilled.{Spilled}
-use Rattle.footprint.specs.Ranges.{Ranges}
+use Rattle.footprint.specs.declared.Ranges.{Ranges}
 use Rattle.footprint.specs.Flank.{classifyFlank}
 use Rattle.footprint.specs.ShortIntron.{endsIn, endpointFrom, exonicSpliceSpill}
 use Rattle.footprint.specs.Numbers.{flankedNumber, endpointNumber, spilledNumber}

@@ -3,7 +3,7 @@ use Prim.Native.Nat.{ℕ, _+_, _-_}
 use mathlib.Core.Bool.{Bool, cond}
 use lib.Dec.{leb, ltb, eqb}
 use Rattle.footprint.specs.declared.Flank.{Flank}
-use Rattle.footprint.specs.Ranges.{Ranges}
+use Rattle.footprint.specs.declared.Ranges.{Ranges}
 use Rattle.transcript.specs.Orient.{Interval, interval, Oriented}
 use Rattle.transcript.specs.Bases.{firstStart, lastEnd}
 

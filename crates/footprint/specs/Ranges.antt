@@ -1,5 +1,6 @@
 -- The lengths that a place is judged by.
 use Prim.Native.Nat.{ℕ}
+use Rattle.footprint.specs.declared.Ranges.{Ranges}
 
 -- the two canonical splice bases at each end of an intron
 abbrev pub spliceCanonicalMax : ℕ
@@ -12,12 +13,6 @@ spliceRegionExonMax = 3
 -- the longest gap that is a frameshift intron
 abbrev pub frameshiftIntronMaxGap : ℕ
 frameshiftIntronMaxGap = 13
-
--- the lengths that a place is judged by: of the flank beside a transcript, and of the splice region into the intron on each side
-pub record Ranges : Type 0 where
-  pub flank : ℕ
-  pub donor : ℕ
-  pub acceptor : ℕ
 
 -- 5000 bases of flank, 8 bases from the donor, 17 from the acceptor
 abbrev pub sourceRanges : Ranges

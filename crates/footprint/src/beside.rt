@@ -1,38 +1,38 @@
 // Where an interval lies beside a transcript, in oriented coordinates.
 use super::Flank;
 use super::Flanked;
+use super::Ranges;
 use super::question::admit_interval;
+use super::source::source_ranges;
 use super::span::Span;
 use super::span::span_of;
 use transcript::Admission;
 use transcript::TranscriptModel;
 use transcript::question::refusal_number;
 ghost use mathlib.Core.Path.{_≡_};
-ghost use Prim.Native.Nat.{_<_};
+ghost use Prim.Native.Nat.{_-_, _^_, _<_};
 ghost use Rattle.transcript.specs.Transcript.{wasGiven};
 ghost use Rattle.footprint.specs.Ranges.{sourceRanges};
 ghost use Rattle.footprint.specs.Lent.{spanOf};
 ghost use Rattle.footprint.specs.Flank.{flankDistance, flankOf};
 ghost use Rattle.footprint.specs.Question.{flank};
 
-// The bases of flank.
-const FLANK: u64 = 5000;
-
 // The distance of an insertion or of some bases, with this number of bases between.
 pub(crate) fn flank_distance(q: Span, bases: u64) -> u64
-    requires { ⌜ bases < 5000 ⌝ }
+    requires { ⌜ bases < 2 ^ 64 - 1 ⌝ }
     ensures { λ r. ⌜ r ≡ flankDistance (spanOf q) bases ⌝ }
 {
     if q.start == q.end { bases } else { bases + 1 }
 }
 
 // Where q lies beside x.
-pub(crate) fn flank_of(x: Span, q: Span) -> Flank
-    ensures { λ r. ⌜ r ≡ flankOf sourceRanges (spanOf x) (spanOf q) ⌝ }
+pub(crate) fn flank_of(ranges: Ranges, x: Span, q: Span) -> Flank
+    ensures { λ r. ⌜ r ≡ flankOf ranges (spanOf x) (spanOf q) ⌝ }
 {
+    let flank = ranges.flank;
     if q.end <= x.start {
         let bases = x.start - q.end;
-        if FLANK <= bases {
+        if flank <= bases {
             return Flank::Far;
         }
         return Flank::Upstream(flank_distance(q, bases));
@@ -41,7 +41,7 @@ pub(crate) fn flank_of(x: Span, q: Span) -> Flank
         return Flank::Overlaps;
     }
     let bases = q.start - x.end;
-    if FLANK <= bases {
+    if flank <= bases {
         return Flank::Far;
     }
     Flank::Downstream(flank_distance(q, bases))
@@ -84,5 +84,5 @@ pub fn classify_flank(
     let strand = model.strand;
     let x = span_of(strand, model.tx_start, model.tx_end);
     let q = span_of(strand, start, end);
-    Flanked::Beside(flank_of(x, q))
+    Flanked::Beside(flank_of(source_ranges(), x, q))
 }

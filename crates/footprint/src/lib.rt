@@ -5,6 +5,7 @@ mod beside;
 mod ends;
 mod gaps;
 mod question;
+mod source;
 mod span;
 mod windows;
 
@@ -13,7 +14,15 @@ pub use base::donor_spill;
 pub use beside::classify_flank;
 pub use ends::frameshift_intron_endpoint;
 pub use gaps::has_frameshift_intron;
+pub use source::source_ranges;
 pub use windows::exonic_splice_spill;
+
+// The lengths that a place is judged by: of the flank beside a transcript, and of the splice region into the intron on each side.
+pub struct Ranges {
+    pub flank: u64,
+    pub donor: u64,
+    pub acceptor: u64,
+}
 
 // Where a footprint lies beside a transcript, with its distance.
 pub enum Flank {

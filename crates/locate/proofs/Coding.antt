@@ -12,7 +12,7 @@ use Rattle.common.specs.Lists.{any}
 use Rattle.common.proofs.TestParts.{on-test, true-false}
 use Rattle.transcript.specs.declared.CdsSegment.{CdsSegment}
 use Rattle.locate.specs.declared.VariantLocation.{VariantLocation}
-use Rattle.footprint.specs.Ranges.{Ranges}
+use Rattle.footprint.specs.declared.Ranges.{Ranges}
 use Rattle.transcript.specs.Transcript.{Transcript}
 use Rattle.transcript.specs.Orient.{Interval, Oriented, oriented, orientSegment}
 use Rattle.transcript.specs.Bases.{inside, insideAny, firstStart, lastEnd}

@@ -11,7 +11,7 @@ use borrow.Author.Tests.{lt-ltb, le-ltb, le-leb, lt-leb}
 use Rattle.transcript.specs.declared.TranscriptModel.{TranscriptModel}
 use Rattle.locate.specs.declared.VariantLocation.{VariantLocation}
 use Rattle.locate.specs.declared.ExonOrIntron.{ExonOrIntron}
-use Rattle.footprint.specs.Ranges.{sourceRanges}
+use Rattle.footprint.specs.declared.Ranges.{Ranges}
 use Rattle.transcript.specs.Transcript.{lent}
 use Rattle.transcript.specs.Orient.{Interval, interval, orient, oriented}
 use Rattle.transcript.specs.Bases.{firstStart, lastEnd}
@@ -66,46 +66,8 @@ module _ (m : TranscriptModel) (ss es ps is gs ge bs : List ℕ) (h : admission 
   finishes : last ≡ lastEnd (oriented (lent m ss es ps is gs ge bs) .exons)
   finishes = el ∙ known m ss es ps is gs ge bs h .finishes
 
-  pub is-up : p < first → upstreamBy sourceRanges (first - p) ≡ locate sourceRanges (oriented (lent m ss es ps is gs ge bs)) p
-  unfolding locate
-  is-up l =
-      let b = begins in
-      ap (λ (n : ℕ). upstreamBy sourceRanges (n - p)) b ∙ rw (lt-ltb p (firstStart (oriented (lent m ss es ps is gs ge bs) .exons)) (omega arith))
-
-  pub is-down : first ≤ p → last ≤ p → downstreamBy sourceRanges (p - last + 1) ≡ locate sourceRanges (oriented (lent m ss es ps is gs ge bs)) p
-  unfolding locate
-  is-down l u =
-      let b = begins in let f = finishes in
-      ap (λ (n : ℕ). downstreamBy sourceRanges (p - n + 1)) f
-      ∙ rw (le-ltb p (firstStart (oriented (lent m ss es ps is gs ge bs) .exons)) (omega arith), le-leb (lastEnd (oriented (lent m ss es ps is gs ge bs) .exons)) p (omega arith))
-
   pub from-first : first ≤ p → firstStart (lentExons (m .strand) ss es) ≤ p
   from-first l = let b = begins ∙ ap firstStart (exons-are m ss es ps is gs ge bs h) in omega arith
-
-  inner : first ≤ p → p < last → placeFound sourceRanges (oriented (lent m ss es ps is gs ge bs)) p (findExonOrIntron (oriented (lent m ss es ps is gs ge bs) .exons) p) ≡ locate sourceRanges (oriented (lent m ss es ps is gs ge bs)) p
-  unfolding locate
-  inner l u =
-      let b = begins in let f = finishes in
-      rw (le-ltb p (firstStart (oriented (lent m ss es ps is gs ge bs) .exons)) (omega arith), lt-leb (lastEnd (oriented (lent m ss es ps is gs ge bs) .exons)) p (omega arith))
-
-  -- what was found is the place
-  by-found : (w : Found) → findExonOrIntron (lentExons (m .strand) ss es) p ≡ w → first ≤ p → p < last
-      → placeFound sourceRanges (oriented (lent m ss es ps is gs ge bs)) p w ≡ locate sourceRanges (oriented (lent m ss es ps is gs ge bs)) p
-  by-found w e l u =
-      ap (λ (v : Found). placeFound sourceRanges (oriented (lent m ss es ps is gs ge bs)) p v) (sym (ap (λ (xs : List Interval). findExonOrIntron xs p) (exons-are m ss es ps is gs ge bs h) ∙ e)) ∙ inner l u
-
-  pub is-exon : (i s e : ℕ) → exonOrIntron (findExonOrIntron (lentExons (m .strand) ss es) p) ≡ ExonOrIntron.Exon i s e → first ≤ p → p < last
-      → exonic (oriented (lent m ss es ps is gs ge bs)) p i (isExonicSpliceRegion (length (oriented (lent m ss es ps is gs ge bs) .exons)) i (interval s e) p) ≡ locate sourceRanges (oriented (lent m ss es ps is gs ge bs)) p
-  is-exon i s e w l u = by-found (inExon i (interval s e)) (held-exon (findExonOrIntron (lentExons (m .strand) ss es) p) i s e w) l u
-
-  pub is-intron : (i s e : ℕ) → exonOrIntron (findExonOrIntron (lentExons (m .strand) ss es) p) ≡ ExonOrIntron.Intron i s e → first ≤ p → p < last
-      → classifyIntronic sourceRanges (ltb 0 (length gs)) i (interval s e) p ≡ locate sourceRanges (oriented (lent m ss es ps is gs ge bs)) p
-  is-intron i s e w l u =
-      ap (λ (c : Bool). classifyIntronic sourceRanges c i (interval s e) p) (coding-is m ss es ps is gs ge bs h)
-      ∙ by-found (inIntron i (interval s e)) (held-intron (findExonOrIntron (lentExons (m .strand) ss es) p) i s e w) l u
-
-  pub is-outside : exonOrIntron (findExonOrIntron (lentExons (m .strand) ss es) p) ≡ ExonOrIntron.Outside → first ≤ p → p < last → VariantLocation.Distal ≡ locate sourceRanges (oriented (lent m ss es ps is gs ge bs)) p
-  is-outside w l u = by-found outside (held-outside (findExonOrIntron (lentExons (m .strand) ss es) p) w) l u
 
   pub holds-exon : (i s e : ℕ) → FoundAt (lentExons (m .strand) ss es) p (ExonOrIntron.Exon i s e) → Holds (oriented (lent m ss es ps is gs ge bs)) i s e p
   holds-exon i s e k =
@@ -117,3 +79,42 @@ module _ (m : TranscriptModel) (ss es ps is gs ge bs : List ℕ) (h : admission 
         from = k .3;
         to = k .4;
       }
+
+  module _ (r : Ranges) where
+    pub is-up : p < first → upstreamBy r (first - p) ≡ locate r (oriented (lent m ss es ps is gs ge bs)) p
+    unfolding locate
+    is-up l =
+        let b = begins in
+        ap (λ (n : ℕ). upstreamBy r (n - p)) b ∙ rw (lt-ltb p (firstStart (oriented (lent m ss es ps is gs ge bs) .exons)) (omega arith))
+
+    pub is-down : first ≤ p → last ≤ p → downstreamBy r (p - last + 1) ≡ locate r (oriented (lent m ss es ps is gs ge bs)) p
+    unfolding locate
+    is-down l u =
+        let b = begins in let f = finishes in
+        ap (λ (n : ℕ). downstreamBy r (p - n + 1)) f
+        ∙ rw (le-ltb p (firstStart (oriented (lent m ss es ps is gs ge bs) .exons)) (omega arith), le-leb (lastEnd (oriented (lent m ss es ps is gs ge bs) .exons)) p (omega arith))
+
+    inner : first ≤ p → p < last → placeFound r (oriented (lent m ss es ps is gs ge bs)) p (findExonOrIntron (oriented (lent m ss es ps is gs ge bs) .exons) p) ≡ locate r (oriented (lent m ss es ps is gs ge bs)) p
+    unfolding locate
+    inner l u =
+        let b = begins in let f = finishes in
+        rw (le-ltb p (firstStart (oriented (lent m ss es ps is gs ge bs) .exons)) (omega arith), lt-leb (lastEnd (oriented (lent m ss es ps is gs ge bs) .exons)) p (omega arith))
+
+    -- what was found is the place
+    by-found : (w : Found) → findExonOrIntron (lentExons (m .strand) ss es) p ≡ w → first ≤ p → p < last
+        → placeFound r (oriented (lent m ss es ps is gs ge bs)) p w ≡ locate r (oriented (lent m ss es ps is gs ge bs)) p
+    by-found w e l u =
+        ap (λ (v : Found). placeFound r (oriented (lent m ss es ps is gs ge bs)) p v) (sym (ap (λ (xs : List Interval). findExonOrIntron xs p) (exons-are m ss es ps is gs ge bs h) ∙ e)) ∙ inner l u
+
+    pub is-exon : (i s e : ℕ) → exonOrIntron (findExonOrIntron (lentExons (m .strand) ss es) p) ≡ ExonOrIntron.Exon i s e → first ≤ p → p < last
+        → exonic (oriented (lent m ss es ps is gs ge bs)) p i (isExonicSpliceRegion (length (oriented (lent m ss es ps is gs ge bs) .exons)) i (interval s e) p) ≡ locate r (oriented (lent m ss es ps is gs ge bs)) p
+    is-exon i s e w l u = by-found (inExon i (interval s e)) (held-exon (findExonOrIntron (lentExons (m .strand) ss es) p) i s e w) l u
+
+    pub is-intron : (i s e : ℕ) → exonOrIntron (findExonOrIntron (lentExons (m .strand) ss es) p) ≡ ExonOrIntron.Intron i s e → first ≤ p → p < last
+        → classifyIntronic r (ltb 0 (length gs)) i (interval s e) p ≡ locate r (oriented (lent m ss es ps is gs ge bs)) p
+    is-intron i s e w l u =
+        ap (λ (c : Bool). classifyIntronic r c i (interval s e) p) (coding-is m ss es ps is gs ge bs h)
+        ∙ by-found (inIntron i (interval s e)) (held-intron (findExonOrIntron (lentExons (m .strand) ss es) p) i s e w) l u
+
+    pub is-outside : exonOrIntron (findExonOrIntron (lentExons (m .strand) ss es) p) ≡ ExonOrIntron.Outside → first ≤ p → p < last → VariantLocation.Distal ≡ locate r (oriented (lent m ss es ps is gs ge bs)) p
+    is-outside w l u = by-found outside (held-outside (findExonOrIntron (lentExons (m .strand) ss es) p) w) l u

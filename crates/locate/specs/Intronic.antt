@@ -6,7 +6,8 @@ use lib.IntN.{ℤ, pos, negℤ}
 use Rattle.locate.specs.declared.SpliceSide.the-variants.{Donor, Acceptor}
 use Rattle.locate.specs.declared.VariantLocation.{VariantLocation}
 use Rattle.locate.specs.declared.VariantLocation.the-variants.{SpliceDonor, SpliceAcceptor, SpliceRegion, Intron, FrameshiftIntron, NonCodingIntron}
-use Rattle.footprint.specs.Ranges.{Ranges, spliceCanonicalMax, frameshiftIntronMaxGap}
+use Rattle.footprint.specs.declared.Ranges.{Ranges}
+use Rattle.footprint.specs.Ranges.{spliceCanonicalMax, frameshiftIntronMaxGap}
 use Rattle.transcript.specs.Orient.{Interval}
 use Rattle.transcript.specs.Bases.{size}
 
@@ -38,6 +39,12 @@ classifyDistances r coding i gap d a =
     (cond (leb d (r .donor) || leb a (r .acceptor)) (spliceRegion r i d a)
     (deepIntron coding i (signedDistance d a)))))
 
--- both distances count from 1
+-- the two distances of an intron base, each counted from 1
+abbrev pub donorDistance : Interval → ℕ → ℕ
+donorDistance gap p = p - gap .start + 1
+
+abbrev pub acceptorDistance : Interval → ℕ → ℕ
+acceptorDistance gap p = gap .end - p
+
 abbrev pub classifyIntronic : Ranges → Bool → ℕ → Interval → ℕ → VariantLocation
-classifyIntronic r coding i gap p = classifyDistances r coding i (size gap) (p - gap .start + 1) (gap .end - p)
+classifyIntronic r coding i gap p = classifyDistances r coding i (size gap) (donorDistance gap p) (acceptorDistance gap p)

@@ -7,7 +7,8 @@ use lib.Dec.{leb, ltb}
 use lib.IntN.{pos}
 use Rattle.locate.specs.declared.VariantLocation.{VariantLocation}
 use Rattle.locate.specs.declared.VariantLocation.the-variants.{FivePrimeUtr, CdsExon, ThreePrimeUtr, NonCodingExon}
-use Rattle.footprint.specs.Ranges.{Ranges, spliceRegionExonMax}
+use Rattle.footprint.specs.declared.Ranges.{Ranges}
+use Rattle.footprint.specs.Ranges.{spliceRegionExonMax}
 use Rattle.transcript.specs.Orient.{Interval, Oriented}
 use Rattle.transcript.specs.Bases.{basesIn, totalSize, firstStart, lastEnd}
 use Rattle.locate.specs.Find.{Found, inExon, inIntron, outside, findExonOrIntron}

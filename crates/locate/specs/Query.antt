@@ -5,7 +5,7 @@ use lib.Dec.{eqb}
 use Rattle.transcript.specs.Transcript.{Transcript}
 use Rattle.transcript.specs.Orient.{orientBase, oriented}
 use Rattle.transcript.specs.Question.{placeRefusal}
-use Rattle.footprint.specs.Ranges.{Ranges}
+use Rattle.footprint.specs.declared.Ranges.{Ranges}
 use Rattle.locate.specs.declared.Located.{Located}
 use Rattle.locate.specs.Place.{locate}
 

@@ -10,7 +10,7 @@ use Rattle.transcript.specs.declared.Strand.{Strand}
 use Rattle.transcript.specs.Lent.{lentExons}
 use Rattle.locate.specs.declared.ExonOrIntron.{ExonOrIntron}
 use Rattle.locate.specs.declared.VariantLocation.{VariantLocation}
-use Rattle.footprint.specs.Ranges.{Ranges}
+use Rattle.footprint.specs.declared.Ranges.{Ranges}
 use Rattle.transcript.specs.Limits.{top, maxExons}
 use Rattle.transcript.specs.Transcript.{exonsOf}
 use Rattle.transcript.specs.Orient.{Interval, interval, Oriented}

@@ -10,6 +10,7 @@ use super::lengths::length_before;
 use super::place::downstream_place;
 use super::place::upstream_place;
 use super::search::find_exon_or_intron;
+use footprint::Ranges;
 use transcript::TranscriptModel;
 use transcript::limits::end_or_zero;
 use transcript::limits::start_or_zero;
@@ -20,7 +21,6 @@ ghost use mathlib.Core.Path.{_≡_};
 ghost use Prim.Native.Nat.{_≤_};
 ghost use lib.ListN.{length};
 ghost use Rattle.transcript.specs.Limits.{top};
-ghost use Rattle.footprint.specs.Ranges.{sourceRanges};
 ghost use Rattle.transcript.specs.Transcript.{given, wasGiven};
 ghost use Rattle.transcript.specs.Orient.{interval, oriented};
 ghost use Rattle.transcript.specs.Admission.{admission};
@@ -86,6 +86,7 @@ pub(crate) fn exon_alone(
 
 // The place of p, an oriented coordinate.
 pub(crate) fn place_alone(
+    ranges: Ranges,
     model: TranscriptModel,
     exon_starts: &[u64],
     exon_ends: &[u64],
@@ -101,7 +102,7 @@ pub(crate) fn place_alone(
         ∗ ⌜ p ≤ top ⌝ }
     ensures { λ r.
         let t = wasGiven model «exon_starts» «exon_ends» «seg_phases» «seg_exons» «seg_starts» «seg_ends» selenocysteine in
-        ⌜ r ≡ locate sourceRanges (oriented t) p ⌝ }
+        ⌜ r ≡ locate ranges (oriented t) p ⌝ }
 {
     let strand = model.strand;
     let s = model.tx_start;
@@ -109,10 +110,10 @@ pub(crate) fn place_alone(
     let first = start_of(strand, s, e);
     let last = end_of(strand, s, e);
     if p < first {
-        return upstream_place(first - p);
+        return upstream_place(ranges, first - p);
     }
     if last <= p {
-        return downstream_place(p - last + 1);
+        return downstream_place(ranges, p - last + 1);
     }
     let found = find_exon_or_intron(exon_starts, exon_ends, strand, p);
     match found {
@@ -130,7 +131,7 @@ pub(crate) fn place_alone(
             b,
             p,
         ),
-        ExonOrIntron::Intron(i, a, b) => classify_intronic(0 < seg_starts.len(), i as u16, a, b, p),
+        ExonOrIntron::Intron(i, a, b) => classify_intronic(ranges, 0 < seg_starts.len(), i as u16, a, b, p),
         ExonOrIntron::Outside => VariantLocation::Distal,
     }
 }

@@ -1,10 +1,10 @@
 // The place of an intron base, from its distances to the two exons.
 use super::SpliceSide;
 use super::VariantLocation;
+use footprint::Ranges;
 ghost use mathlib.Core.Path.{_≡_};
 ghost use Prim.Native.Nat.{_+_, _-_, _≤_, _<_};
 ghost use Rattle.transcript.specs.Limits.{top};
-ghost use Rattle.footprint.specs.Ranges.{sourceRanges};
 ghost use Rattle.transcript.specs.Orient.{interval};
 ghost use Rattle.locate.specs.Intronic.{signedDistance, spliceRegion, deepIntron, classifyDistances, classifyIntronic};
 
@@ -17,18 +17,20 @@ pub(crate) fn signed_distance(d: u64, a: u64) -> i64
 }
 
 // The side in range; where both are, the nearer one, the donor on a tie.
-pub(crate) fn splice_region(i: u16, d: u64, a: u64) -> VariantLocation
+pub(crate) fn splice_region(ranges: Ranges, i: u16, d: u64, a: u64) -> VariantLocation
     requires { ⌜ (d ≤ top) × (a ≤ top) ⌝ }
-    ensures { λ r. ⌜ r ≡ spliceRegion sourceRanges i d a ⌝ }
+    ensures { λ r. ⌜ r ≡ spliceRegion ranges i d a ⌝ }
 {
-    if 8 < d {
+    let donor = ranges.donor;
+    let acceptor = ranges.acceptor;
+    if donor < d {
         return VariantLocation::SpliceRegion {
             intron_index: i,
             side: SpliceSide::Acceptor,
             distance: -(a as i64),
         };
     }
-    if 17 < a {
+    if acceptor < a {
         return VariantLocation::SpliceRegion {
             intron_index: i,
             side: SpliceSide::Donor,
@@ -65,10 +67,19 @@ pub(crate) fn deep_intron(coding: bool, i: u16, distance: i64) -> VariantLocatio
 }
 
 // The place in intron i of length `gap`, at donor distance d and acceptor distance a.
-pub(crate) fn classify_distances(coding: bool, i: u16, gap: u64, d: u64, a: u64) -> VariantLocation
+pub(crate) fn classify_distances(
+    ranges: Ranges,
+    coding: bool,
+    i: u16,
+    gap: u64,
+    d: u64,
+    a: u64,
+) -> VariantLocation
     requires { ⌜ (d ≤ top) × (a ≤ top) ⌝ }
-    ensures { λ r. ⌜ r ≡ classifyDistances sourceRanges coding i gap d a ⌝ }
+    ensures { λ r. ⌜ r ≡ classifyDistances ranges coding i gap d a ⌝ }
 {
+    let donor = ranges.donor;
+    let acceptor = ranges.acceptor;
     if gap <= 13 {
         return VariantLocation::FrameshiftIntron {
             intron_index: i,
@@ -87,17 +98,18 @@ pub(crate) fn classify_distances(coding: bool, i: u16, gap: u64, d: u64, a: u64)
             offset: a as u8,
         };
     }
-    if d <= 8 {
-        return splice_region(i, d, a);
+    if d <= donor {
+        return splice_region(ranges, i, d, a);
     }
-    if a <= 17 {
-        return splice_region(i, d, a);
+    if a <= acceptor {
+        return splice_region(ranges, i, d, a);
     }
     deep_intron(coding, i, signed_distance(d, a))
 }
 
 // The place of the base p of intron i, [start, end).
 pub(crate) fn classify_intronic(
+    ranges: Ranges,
     coding: bool,
     i: u16,
     start: u64,
@@ -105,7 +117,7 @@ pub(crate) fn classify_intronic(
     p: u64,
 ) -> VariantLocation
     requires { ⌜ (start ≤ p) × (p < end) × (end ≤ top) ⌝ }
-    ensures { λ r. ⌜ r ≡ classifyIntronic sourceRanges coding i (interval start end) p ⌝ }
+    ensures { λ r. ⌜ r ≡ classifyIntronic ranges coding i (interval start end) p ⌝ }
 {
-    classify_distances(coding, i, end - start, p - start + 1, end - p)
+    classify_distances(ranges, coding, i, end - start, p - start + 1, end - p)
 }

@@ -7,6 +7,7 @@ use super::exonic::is_exonic_splice_region;
 use super::intronic::classify_intronic;
 use super::positions::offset_at;
 use super::search::find_exon_or_intron;
+use footprint::Ranges;
 use transcript::TranscriptModel;
 use transcript::limits::end_or_zero;
 use transcript::limits::start_or_zero;
@@ -16,7 +17,6 @@ ghost use mathlib.Core.Path.{_≡_};
 ghost use Prim.Native.Nat.{_+_, _-_, _≤_, _<_};
 ghost use lib.ListN.{length};
 ghost use Rattle.transcript.specs.Limits.{top};
-ghost use Rattle.footprint.specs.Ranges.{sourceRanges};
 ghost use Rattle.transcript.specs.Transcript.{given, wasGiven};
 ghost use Rattle.transcript.specs.Orient.{interval, oriented};
 ghost use Rattle.transcript.specs.Admission.{admission};
@@ -25,19 +25,21 @@ ghost use Rattle.locate.specs.Sums.{ExonSums};
 ghost use Rattle.locate.specs.Place.{isExonicSpliceRegion, exonic, locate};
 ghost use Rattle.locate.specs.Search.{Holds, upstreamBy, downstreamBy};
 
-pub(crate) fn upstream_place(d: u64) -> VariantLocation
-    ensures { λ r. ⌜ r ≡ upstreamBy sourceRanges d ⌝ }
+pub(crate) fn upstream_place(ranges: Ranges, d: u64) -> VariantLocation
+    ensures { λ r. ⌜ r ≡ upstreamBy ranges d ⌝ }
 {
-    if d <= 5000 {
+    let flank = ranges.flank;
+    if d <= flank {
         return VariantLocation::Upstream { distance: d };
     }
     VariantLocation::Distal
 }
 
-pub(crate) fn downstream_place(d: u64) -> VariantLocation
-    ensures { λ r. ⌜ r ≡ downstreamBy sourceRanges d ⌝ }
+pub(crate) fn downstream_place(ranges: Ranges, d: u64) -> VariantLocation
+    ensures { λ r. ⌜ r ≡ downstreamBy ranges d ⌝ }
 {
-    if d <= 5000 {
+    let flank = ranges.flank;
+    if d <= flank {
         return VariantLocation::Downstream { distance: d };
     }
     VariantLocation::Distal
@@ -98,6 +100,7 @@ pub(crate) fn exon_base(
 
 // The place of p, an oriented coordinate.
 pub fn place_of_base(
+    ranges: Ranges,
     model: TranscriptModel,
     exon_starts: &[u64],
     exon_ends: &[u64],
@@ -116,7 +119,7 @@ pub fn place_of_base(
         ∗ ⌜ p ≤ top ⌝ }
     ensures { λ r.
         let t = wasGiven model «exon_starts» «exon_ends» «seg_phases» «seg_exons» «seg_starts» «seg_ends» selenocysteine in
-        ⌜ r ≡ locate sourceRanges (oriented t) p ⌝ }
+        ⌜ r ≡ locate ranges (oriented t) p ⌝ }
 {
     let strand = model.strand;
     let s = model.tx_start;
@@ -124,10 +127,10 @@ pub fn place_of_base(
     let first = start_of(strand, s, e);
     let last = end_of(strand, s, e);
     if p < first {
-        return upstream_place(first - p);
+        return upstream_place(ranges, first - p);
     }
     if last <= p {
-        return downstream_place(p - last + 1);
+        return downstream_place(ranges, p - last + 1);
     }
     let found = find_exon_or_intron(exon_starts, exon_ends, strand, p);
     match found {
@@ -147,7 +150,7 @@ pub fn place_of_base(
             b,
             p,
         ),
-        ExonOrIntron::Intron(i, a, b) => classify_intronic(0 < seg_starts.len(), i as u16, a, b, p),
+        ExonOrIntron::Intron(i, a, b) => classify_intronic(ranges, 0 < seg_starts.len(), i as u16, a, b, p),
         ExonOrIntron::Outside => VariantLocation::Distal,
     }
 }

@@ -1,6 +1,7 @@
 // The question of a place: its refusals, then the place of its first base.
 use super::Located;
 use super::alone::place_alone;
+use footprint::source_ranges;
 use transcript::Admission;
 use transcript::TranscriptModel;
 use transcript::admit;
@@ -53,6 +54,7 @@ pub fn locate_variant(
     let strand = model.strand;
     let p = base_of(strand, start);
     let place = place_alone(
+        source_ranges(),
         model,
         exon_starts,
         exon_ends,

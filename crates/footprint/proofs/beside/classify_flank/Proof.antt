@@ -89,15 +89,20 @@ span-of-requires c κs = let k = have c .facts in let s = k .tx-start-low in let
 span-of-requires-2 : tie.Need-span-of-requires-2
 span-of-requires-2 c κs = let k = have (c .before) in (k .start-low, k .end-low)
 
+source-ranges-requires : tie.Need-source-ranges-requires
+source-ranges-requires c κs = search needs
+
 flank-of-requires : tie.Need-flank-of-requires
 flank-of-requires c κs = search needs
 
 returns-2 : tie.Need-returns-2
 unfolding flank
 returns-2 c =
-    let d = c .before .before .before in
+    let d = c .before .before .before .before in
     let b = at (d .before .before) in
-    ap Flanked.Beside (c .flank-of .ensures ∙ by-bounds sourceRanges (t b) (q b) (have d .facts) (c .before .before .span-of .ensures) (c .before .span-of2 .ensures))
+    ap Flanked.Beside
+    (rw (c .before .source-ranges .ensures) at (c .flank-of .ensures)
+    ∙ by-bounds sourceRanges (t b) (q b) (have d .facts) (c .before .before .before .span-of .ensures) (c .before .before .span-of2 .ensures))
     ∙ is-answered Flanked.Refused (answer b) (refusal b) (have d .none)
 
 pub classify-flank-spec : {M : Type 1} → statement M
@@ -111,5 +116,6 @@ classify-flank-spec =
     returns
     span-of-requires
     span-of-requires-2
+    source-ranges-requires
     flank-of-requires
     returns-2)

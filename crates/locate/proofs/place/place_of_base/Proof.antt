@@ -39,7 +39,7 @@ upstream-place-requires : tie.Need-upstream-place-requires
 upstream-place-requires c κs = search needs
 
 returns : tie.Need-returns
-returns c = let b = c .before .before .before .before .before .before .before .before .before .before .before .before in c .upstream-place .ensures ∙ on b is-up (b .pre .0) (b .args .p) (c .before .before .before .start-of .result) (c .before .before .end-of .result) (c .before .before .before .start-of .ensures) (c .before .before .end-of .ensures) (c .before .if1 .taken)
+returns c = let b = c .before .before .before .before .before .before .before .before .before .before .before .before in c .upstream-place .ensures ∙ on b is-up (b .pre .0) (b .args .p) (c .before .before .before .start-of .result) (c .before .before .end-of .result) (c .before .before .before .start-of .ensures) (c .before .before .end-of .ensures) (b .args .ranges) (c .before .if1 .taken)
 
 add-downstream-place : tie.Need-add-downstream-place
 add-downstream-place c = search needs
@@ -48,7 +48,7 @@ downstream-place-requires : tie.Need-downstream-place-requires
 downstream-place-requires c κs = search needs
 
 returns-2 : tie.Need-returns-2
-returns-2 c = let b = c .before .before .before .before .before .before .before .before .before .before .before .before .before in c .downstream-place .ensures ∙ on b is-down (b .pre .0) (b .args .p) (c .before .before .before .before .start-of .result) (c .before .before .before .end-of .result) (c .before .before .before .before .start-of .ensures) (c .before .before .before .end-of .ensures) (c .before .before .if1 .left) (c .before .if2 .taken)
+returns-2 c = let b = c .before .before .before .before .before .before .before .before .before .before .before .before .before in c .downstream-place .ensures ∙ on b is-down (b .pre .0) (b .args .p) (c .before .before .before .before .start-of .result) (c .before .before .before .end-of .result) (c .before .before .before .before .start-of .ensures) (c .before .before .before .end-of .ensures) (b .args .ranges) (c .before .before .if1 .left) (c .before .if2 .taken)
 
 find-exon-or-intron-requires : tie.Need-find-exon-or-intron-requires
 find-exon-or-intron-requires c κs = let b = c .before .before .before .before .before .before .before .before .before .before .before .before in (on b ready (b .pre .0), on b from-first (b .pre .0) (b .args .p) (c .before .before .before .start-of .result) (c .before .before .end-of .result) (c .before .before .before .start-of .ensures) (c .before .before .end-of .ensures) (c .before .if1 .left))
@@ -86,17 +86,17 @@ enum-told c = search needs
 returns-3 : tie.Need-returns-3
 returns-3 c =
     let b = c .before .before .before .before .before .before .before .before .before .before .before .before .before .before .before .before .before in
-    c .exon-base .ensures ∙ on b is-exon (b .pre .0) (b .args .p) (c .before .before .before .before .before .before .before .before .start-of .result) (c .before .before .before .before .before .before .before .end-of .result) (c .before .before .before .before .before .before .before .before .start-of .ensures) (c .before .before .before .before .before .before .before .end-of .ensures) _ _ _ (sym (c .before .before .before .before .find-exon-or-intron .ensures .0) ∙ c .before .before .found .given .1) (c .before .before .before .before .before .before .if1 .left) (c .before .before .before .before .before .if2 .left)
+    c .exon-base .ensures ∙ on b is-exon (b .pre .0) (b .args .p) (c .before .before .before .before .before .before .before .before .start-of .result) (c .before .before .before .before .before .before .before .end-of .result) (c .before .before .before .before .before .before .before .before .start-of .ensures) (c .before .before .before .before .before .before .before .end-of .ensures) (b .args .ranges) _ _ _ (sym (c .before .before .before .before .find-exon-or-intron .ensures .0) ∙ c .before .before .found .given .1) (c .before .before .before .before .before .before .if1 .left) (c .before .before .before .before .before .if2 .left)
 
 returns-4 : tie.Need-returns-4
 returns-4 c =
     let b = c .before .before .before .before .before .before .before .before .before .before .before .before .before .before .before .before .before in
-    c .classify-intronic .ensures ∙ on b is-intron (b .pre .0) (b .args .p) (c .before .before .before .before .before .before .before .before .start-of .result) (c .before .before .before .before .before .before .before .end-of .result) (c .before .before .before .before .before .before .before .before .start-of .ensures) (c .before .before .before .before .before .before .before .end-of .ensures) _ _ _ (sym (c .before .before .before .before .find-exon-or-intron .ensures .0) ∙ c .before .before .found2 .given .1) (c .before .before .before .before .before .before .if1 .left) (c .before .before .before .before .before .if2 .left)
+    c .classify-intronic .ensures ∙ on b is-intron (b .pre .0) (b .args .p) (c .before .before .before .before .before .before .before .before .start-of .result) (c .before .before .before .before .before .before .before .end-of .result) (c .before .before .before .before .before .before .before .before .start-of .ensures) (c .before .before .before .before .before .before .before .end-of .ensures) (b .args .ranges) _ _ _ (sym (c .before .before .before .before .find-exon-or-intron .ensures .0) ∙ c .before .before .found2 .given .1) (c .before .before .before .before .before .before .if1 .left) (c .before .before .before .before .before .if2 .left)
 
 returns-5 : tie.Need-returns-5
 returns-5 c =
     let b = c .before .before .before .before .before .before .before .before .before .before .before .before .before .before .before in
-    on b is-outside (b .pre .0) (b .args .p) (c .before .before .before .before .before .before .start-of .result) (c .before .before .before .before .before .end-of .result) (c .before .before .before .before .before .before .start-of .ensures) (c .before .before .before .before .before .end-of .ensures) (sym (c .before .before .find-exon-or-intron .ensures .0) ∙ c .enum-told .given .1) (c .before .before .before .before .if1 .left) (c .before .before .before .if2 .left)
+    on b is-outside (b .pre .0) (b .args .p) (c .before .before .before .before .before .before .start-of .result) (c .before .before .before .before .before .end-of .result) (c .before .before .before .before .before .before .start-of .ensures) (c .before .before .before .before .before .end-of .ensures) (b .args .ranges) (sym (c .before .before .find-exon-or-intron .ensures .0) ∙ c .enum-told .given .1) (c .before .before .before .before .if1 .left) (c .before .before .before .if2 .left)
 
 pub place-of-base-spec : {M : Type 1} → statement M
 place-of-base-spec =

@@ -46,32 +46,36 @@ returns c =
     let a = c .before .before .before .admit in
     let l = refused-some (on b lent) (a .result) (a .ensures) _ (c .before .enum-told2 .given .1) in
     let e = c .refusal-number .ensures ∙ number-is (on b lent) (a .result) (a .ensures) in
-    is-refused (on b lent) (b .args .chromosome) (b .args .start) (b .args .end) (c .refusal-number .result) (omega arith) e
+    is-refused sourceRanges (on b lent) (b .args .chromosome) (b .args .start) (b .args .end) (c .refusal-number .result) (omega arith) e
 
 bad-place-requires : tie.Need-bad-place-requires
 bad-place-requires c κs = search needs
 
 returns-2 : tie.Need-returns-2
-returns-2 c = let b = c .before .before .before .before .before .before .before .before .before .before .before .before in is-15 (on b lent) (b .args .chromosome) (b .args .start) (b .args .end) (admitted (c .before .before)) (sym (c .before .bad-place .ensures) ∙ c .if1 .taken)
+returns-2 c = let b = c .before .before .before .before .before .before .before .before .before .before .before .before in is-15 sourceRanges (on b lent) (b .args .chromosome) (b .args .start) (b .args .end) (admitted (c .before .before)) (sym (c .before .bad-place .ensures) ∙ c .if1 .taken)
 
 returns-3 : tie.Need-returns-3
-returns-3 c = let b = c .before .before .before .before .before .before .before .before .before .before .before .before .before .before in is-14 (on b lent) (b .args .chromosome) (b .args .start) (b .args .end) (admitted (c .before .before .before .before)) (sym (c .before .before .before .bad-place .ensures) ∙ c .before .before .if1 .left) (c .if2 .taken)
+returns-3 c = let b = c .before .before .before .before .before .before .before .before .before .before .before .before .before .before in is-14 sourceRanges (on b lent) (b .args .chromosome) (b .args .start) (b .args .end) (admitted (c .before .before .before .before)) (sym (c .before .before .before .bad-place .ensures) ∙ c .before .before .if1 .left) (c .if2 .taken)
 
 base-of-requires : tie.Need-base-of-requires
 base-of-requires c κs = let b = c .before .before .before .before .before .before .before .before .before .before .before .before .before .before in start-within (b .args .start) (b .args .end) (sym (c .before .before .before .bad-place .ensures) ∙ c .before .before .if1 .left)
 
+source-ranges-requires : tie.Need-source-ranges-requires
+source-ranges-requires c κs = search needs
+
 place-alone-requires : tie.Need-place-alone-requires
 place-alone-requires c κs =
-    let b = c .before .before .before .before .before .before .before .before .before .before .before .before .before .before .before in (
-      admitted (c .before .before .before .before .before),
-      rw (c .base-of .ensures) (base-low (b .args .model .strand) (b .args .start) (start-within (b .args .start) (b .args .end) (sym (c .before .before .before .before .bad-place .ensures) ∙ c .before .before .before .if1 .left))),
+    let b = c .before .before .before .before .before .before .before .before .before .before .before .before .before .before .before .before in (
+      admitted (c .before .before .before .before .before .before),
+      rw (c .before .base-of .ensures) (base-low (b .args .model .strand) (b .args .start) (start-within (b .args .start) (b .args .end) (sym (c .before .before .before .before .before .bad-place .ensures) ∙ c .before .before .before .before .if1 .left))),
     )
 
 returns-4 : tie.Need-returns-4
 returns-4 c =
-    let b = c .before .before .before .before .before .before .before .before .before .before .before .before .before .before .before .before in
-    ap Located.At (c .place-alone .ensures ∙ ap (locate sourceRanges (oriented (on b lent))) (c .before .base-of .ensures))
-    ∙ is-at (on b lent) (b .args .chromosome) (b .args .start) (b .args .end) (admitted (c .before .before .before .before .before .before)) (sym (c .before .before .before .before .before .bad-place .ensures) ∙ c .before .before .before .before .if1 .left) (c .before .before .if2 .left)
+    let b = c .before .before .before .before .before .before .before .before .before .before .before .before .before .before .before .before .before in
+    ap Located.At (rw (c .before .source-ranges .ensures) at (c .place-alone .ensures)
+    ∙ ap (locate sourceRanges (oriented (on b lent))) (c .before .before .base-of .ensures))
+    ∙ is-at sourceRanges (on b lent) (b .args .chromosome) (b .args .start) (b .args .end) (admitted (c .before .before .before .before .before .before .before)) (sym (c .before .before .before .before .before .before .bad-place .ensures) ∙ c .before .before .before .before .before .if1 .left) (c .before .before .before .if2 .left)
 
 pub locate-variant-spec : {M : Type 1} → statement M
 locate-variant-spec =
@@ -86,5 +90,6 @@ locate-variant-spec =
     returns-2
     returns-3
     base-of-requires
+    source-ranges-requires
     place-alone-requires
     returns-4)
