@@ -7,13 +7,14 @@ use native.Mathlib.Omega.{arith}
 use lib.Dec.{eqb}
 use borrow.Author.Tests.{ne-eqb}
 use Rattle.common.specs.Refuse.{orElse}
+use Rattle.codon.specs.Table.{standardTable}
 use Rattle.transcript.specs.Transcript.{Transcript}
 use Rattle.transcript.specs.Orient.{interval, orientBase, oriented}
 use Rattle.transcript.specs.Admission.{admission}
 use Rattle.transcript.specs.Question.{badInterval, isElsewhere}
 use Rattle.transcript.proofs.Asking.{by-admission, is-refused}
 use Rattle.footprint.specs.declared.SpliceSpill.{SpliceSpill}
-use Rattle.footprint.specs.Ranges.{sourceRanges}
+use Rattle.footprint.specs.declared.Ranges.{Ranges}
 use Rattle.footprint.specs.ShortIntron.{exonicSpliceSpill}
 use Rattle.locate.specs.declared.VariantLocation.{VariantLocation}
 use Rattle.locate.specs.Place.{locate}
@@ -25,7 +26,7 @@ use Rattle.consequence.specs.Window.{Window, windowFrom, baseAt, codingB
 use Rattle.consequence.specs.Reading.{cdsBase, fetchBases}
 use Rattle.consequence.specs.Answer.{placeResult}
 use Rattle.consequence.specs.Call.{addSpliceSpill, callPlace, callCodon, lacksCodon, openingRefusal, closingRefusal, callRefusal, callResult, annotateSnv}
-use Rattle.consequence.specs.Region.{placeCalled}
+use Rattle.consequence.specs.AtPlace.{placeCalled}
 
 -- the spill added to an answer
 abbrev pub spilled : SpliceSpill → Called → Called
@@ -42,17 +43,17 @@ spilled-cond s false a n = refl
 first-refusal : (n later : ℕ) → 0 < n → orElse n later ≡ n
 first-refusal n later l = rw (ne-eqb n 0 (λ z. (omega arith)))
 
-module _ (t : Transcript) (w : Window) (q : Call) where
+module _ (r : Ranges) (t : Transcript) (w : Window) (q : Call) where
   -- a refusal before the place is known
-  pub refused : (n : ℕ) → 0 < n → openingRefusal t w q ≡ n → Called.Refused n ≡ annotateSnv sourceRanges t w q
+  pub refused : (n : ℕ) → 0 < n → openingRefusal t w q ≡ n → Called.Refused n ≡ annotateSnv r t w q
   unfolding annotateSnv callRefusal
-  refused n l e = is-refused Called.Refused (Called.Answered (callResult sourceRanges t w q)) (callRefusal sourceRanges t w q) n l (rw e (first-refusal n _ l))
+  refused n l e = is-refused Called.Refused (Called.Answered (callResult r t w q)) (callRefusal r t w q) n l (rw e (first-refusal n _ l))
 
   by-number : (n : ℕ) → 0 < n → n ≡ admission t → openingRefusal t w q ≡ n
   unfolding openingRefusal
   by-number n l e = rw (by-admission t (badInterval (q .position) (q .position + 1)) (isElsewhere t (q .chromosome) || isElsewhere t (w .chromosome)) n l e) (first-refusal n _ l)
 
-  pub not-admitted : (n : ℕ) → 0 < n → n ≡ admission t → Called.Refused n ≡ annotateSnv sourceRanges t w q
+  pub not-admitted : (n : ℕ) → 0 < n → n ≡ admission t → Called.Refused n ≡ annotateSnv r t w q
   not-admitted n l e = refused n l (by-number n l e)
 
   -- the chromosome of the window takes no part in reading
@@ -67,15 +68,15 @@ module _ (t : Transcript) (w : Window) (q : Call) where
   base = orientBase (t .model .strand) (q .position)
 
   abbrev closing : ℕ
-  closing = closingRefusal (isDistal (callPlace sourceRanges t q)) (lacksCodon (callCodon t w) (callPlace sourceRanges t q))
+  closing = closingRefusal (isDistal (callPlace r t q)) (lacksCodon (callCodon t w) (callPlace r t q))
 
   -- the answer at the place with its spill
-  pub answered : openingRefusal t w q ≡ 0 → (p : ℕ) → p ≡ base → (place : VariantLocation) → place ≡ locate sourceRanges (oriented t) p
-      → (x : Called) → x ≡ placeCalled (oriented t) p (codingByte (t .model .strand) (q .«alt_base»)) (callCodon t (windowFrom (w .first) (w .bytes))) place
-      → (s : SpliceSpill) → s ≡ spill p → spilled s x ≡ annotateSnv sourceRanges t w q
+  pub answered : openingRefusal t w q ≡ 0 → (p : ℕ) → p ≡ base → (place : VariantLocation) → place ≡ locate r (oriented t) p
+      → (x : Called) → x ≡ placeCalled standardTable (oriented t) p (codingByte (t .model .strand) (q .«alt_base»)) (callCodon t (windowFrom (w .first) (w .bytes))) place
+      → (s : SpliceSpill) → s ≡ spill p → spilled s x ≡ annotateSnv r t w q
   unfolding annotateSnv callRefusal callResult placeCalled
   answered h p ep place el x ex s es =
       (λ k. spilled (es k) (ex k))
-      ∙ (λ k. spilled (spill p) (placeCalled (oriented t) p (codingByte (t .model .strand) (q .«alt_base»)) (codon-read k) (el k)))
-      ∙ ap (λ (n : ℕ). spilled (spill n) (placeCalled (oriented t) n (codingByte (t .model .strand) (q .«alt_base»)) (callCodon t w) (locate sourceRanges (oriented t) n))) ep
-      ∙ rw h (spilled-cond (spill base) (eqb closing 0) (placeResult (oriented t) base (codingByte (t .model .strand) (q .«alt_base»)) (callCodon t w) (callPlace sourceRanges t q)) closing)
+      ∙ (λ k. spilled (spill p) (placeCalled standardTable (oriented t) p (codingByte (t .model .strand) (q .«alt_base»)) (codon-read k) (el k)))
+      ∙ ap (λ (n : ℕ). spilled (spill n) (placeCalled standardTable (oriented t) n (codingByte (t .model .strand) (q .«alt_base»)) (callCodon t w) (locate r (oriented t) n))) ep
+      ∙ rw h (spilled-cond (spill base) (eqb closing 0) (placeResult standardTable (oriented t) base (codingByte (t .model .strand) (q .«alt_base»)) (callCodon t w) (callPlace r t q)) closing)

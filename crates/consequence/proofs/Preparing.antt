@@ -17,7 +17,7 @@ use Rattle.transcript.specs.Bases.{inside, insideAny, sum, basesIn, totalSize}
 use Rattle.transcript.specs.Admission.{admission}
 use Rattle.transcript.proofs.Listed.{nowhere}
 use Rattle.transcript.proofs.Orient.{inside-start, inside-end}
-use Rattle.footprint.specs.Ranges.{sourceRanges}
+use Rattle.footprint.specs.declared.Ranges.{Ranges}
 use Rattle.locate.specs.declared.VariantLocation.{VariantLocation}
 use Rattle.locate.specs.declared.IndexScalars.{IndexScalars}
 use Rattle.locate.specs.Index.{selenocysteineCodons}
@@ -33,10 +33,11 @@ use Rattle.locate.proofs.LentTranscript.{known, ad, exons-are, segments-are, ba
 use Rattle.locate.proofs.LentIndex.{exonic, coding, total, coded}
 use Rattle.consequence.specs.declared.FetchedCodon.{FetchedCodon}
 use Rattle.consequence.specs.declared.region.Region.{Region}
-use Rattle.consequence.specs.Region.{regionOf, placeCalled}
+use Rattle.consequence.specs.Region.{regionOf}
+use Rattle.consequence.specs.AtPlace.{regionCalled, placeCalled}
 use Rattle.consequence.specs.Segments.{Segments}
 use Rattle.consequence.specs.Prepared.{Prepared}
-use Rattle.consequence.proofs.Regions.{regionCalled, by-region, Here, AtRegion, placed, coding-region}
+use Rattle.consequence.proofs.Regions.{by-region, Here, AtRegion, placed, coding-region}
 
 -- the bases before p are at most all of them, and fewer where p is one of them
 part-le : (s e p : ℕ) → min e p - max s 0 ≤ e - s
@@ -107,26 +108,26 @@ module _ (m : TranscriptModel) (ss es ps is gs ge bs : List ℕ) (x : IndexScala
   exon-cdna p n e = ap (λ (l : List Interval). basesIn l 0 p + 1) (on exons-are) ∙ sym e
 
   -- the place of a base, by its region
-  module _ (p : ℕ) (place : VariantLocation) (q : place ≡ locate sourceRanges o p) (g : Region) (e : g ≡ regionOf (ltb 0 (length gs)) place) where
+  module _ (r : Ranges) (p : ℕ) (place : VariantLocation) (q : place ≡ locate r o p) (g : Region) (e : g ≡ regionOf (ltb 0 (length gs)) place) where
     coding-same : g ≡ regionOf (o .coding) place
     coding-same = e ∙ ap (λ (b : Bool). regionOf b place) (on coding-is)
 
     pub at-region : AtRegion (o .exons) p g
-    at-region = rw (coding-same ∙ ap (regionOf (o .coding)) q) (placed sourceRanges o p)
+    at-region = rw (coding-same ∙ ap (regionOf (o .coding)) q) (placed r o p)
 
-    pub called : (alt : ℕ) (codon : ℕ → FetchedCodon) → regionCalled o p alt codon place g ≡ placeCalled o p alt codon place
-    called alt codon = ap (regionCalled o p alt codon place) coding-same ∙ by-region o p alt codon place
+    pub called : (code : List ℕ) (alt : ℕ) (codon : ℕ → FetchedCodon) → regionCalled code o p alt codon place g ≡ placeCalled code o p alt codon place
+    called code alt codon = ap (regionCalled code o p alt codon place) coding-same ∙ by-region code o p alt codon place
 
   -- a coding base
-  module _ (p : ℕ) (place : VariantLocation) (q : place ≡ locate sourceRanges o p) (i f n k : ℕ) (mark : Bool) (e : Region.Coding i f n k mark ≡ regionOf (ltb 0 (length gs)) place) where
+  module _ (r : Ranges) (p : ℕ) (place : VariantLocation) (q : place ≡ locate r o p) (i f n k : ℕ) (mark : Bool) (e : Region.Coding i f n k mark ≡ regionOf (ltb 0 (length gs)) place) where
     is-coding : (isCdsExon place ≡ true) × (placeOffset place ≡ f)
     is-coding = coding-region (ltb 0 (length gs)) place i f n k mark (sym e)
 
     in-segment : insideAny p (o .segments) ≡ true
-    in-segment = sym (coding-place t (on known) sourceRanges p) ∙ ap isCdsExon (sym q) ∙ is-coding .0
+    in-segment = sym (coding-place t (on known) r p) ∙ ap isCdsExon (sym q) ∙ is-coding .0
 
     offset-is : f ≡ cdsOffset o p
-    offset-is = sym (is-coding .1) ∙ ap placeOffset q ∙ coding-offset sourceRanges o p (ap isCdsExon (sym q) ∙ is-coding .0)
+    offset-is = sym (is-coding .1) ∙ ap placeOffset q ∙ coding-offset r o p (ap isCdsExon (sym q) ∙ is-coding .0)
 
     position : CdnaOf o p
     position = index-cdna t (on known) p in-segment
@@ -155,7 +156,7 @@ module _ (m : TranscriptModel) (ss es ps is gs ge bs : List ℕ) (x : IndexScala
         let l = length-map (o .selenocysteine) (λ b. cdsOffset o b / 3 + 1) in
         let a = ap length (h .codons-are) ∙ length-append (selenocysteineCodons o) (replicate (64 - length (selenocysteineCodons o)) 0) in
         let w = on ad .few-bases in
-        let u = index-fits i (at-region p place q (Region.Coding i f n k mark) e) .0 in
+        let u = index-fits i (at-region r p place q (Region.Coding i f n k mark) e) .0 in
         let z : CdnaOf o p = position in
         let v : (x .«cds_start_pad» ≤ f) × (x .«utr5_exonic_len» + (f - x .«cds_start_pad») ≤ top) = rw (s, offset-is) (z .padded, z .fits) in
         let y : x .«cds_start_pad» ≤ 2 = rw s (on pad-2) in (

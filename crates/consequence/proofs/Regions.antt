@@ -20,31 +20,23 @@ use Rattle.locate.specs.Find.{Found, inExon, inIntron, outside, findAfter, find
 use Rattle.locate.specs.Intronic.{signedDistance, deepIntron, classifyDistances}
 use Rattle.locate.specs.Place.{exonic, placeFound, locate}
 use Rattle.locate.specs.PlaceKind.{isCdsExon, placeOffset}
-use Rattle.terms.specs.declared.Consequence.the-variants.{SpliceRegionVariant}
-use Rattle.terms.specs.Terms.{only, withTermIf}
 use Rattle.consequence.specs.declared.FetchedCodon.{FetchedCodon}
 use Rattle.consequence.specs.declared.Called.{Called}
 use Rattle.consequence.specs.declared.region.Region.{Region}
-use Rattle.consequence.specs.Answer.{flankResult, intronResult, exonResult, termAlone, codonColumns, placeResult}
+use Rattle.consequence.specs.Answer.{codonColumns, codonResult, placeResult}
 use Rattle.consequence.specs.Call.{isOutside, closingRefusal}
-use Rattle.consequence.specs.Region.{regionOf, codingCalled, placeCalled}
+use Rattle.consequence.specs.Region.{regionOf}
+use Rattle.consequence.specs.AtPlace.{codingCalled, regionCalled, placeCalled}
 
--- the answer at a place before the spill, from its region
-abbrev pub regionCalled : Oriented → ℕ → ℕ → (ℕ → FetchedCodon) → VariantLocation → Region → Called
-regionCalled t p alt codon place Region.Distal = Called.Refused 19
-regionCalled t p alt codon place (Region.Flank c) = Called.Answered (flankResult place (only c))
-regionCalled t p alt codon place (Region.Intron i c m) = Called.Answered (intronResult t place i (withTermIf m (only c) SpliceRegionVariant))
-regionCalled t p alt codon place (Region.Exon i c m) = Called.Answered (exonResult t p place i m (termAlone c))
-regionCalled t p alt codon place (Region.Coding i o n k m) = codingCalled t p alt place i o n k m (codon o)
-
--- it is the answer at the place
-module _ (t : Oriented) (p alt : ℕ) (codon : ℕ → FetchedCodon) where
+-- the answer from the region is the answer at the place
+module _ (code : List ℕ) (t : Oriented) (p alt : ℕ) (codon : ℕ → FetchedCodon) where
   coded : (place : VariantLocation) (i o n k : ℕ) (m : Bool) (c : FetchedCodon)
-      → codingCalled t p alt place i o n k m c ≡ cond (eqb (closingRefusal false (isOutside c)) 0) (Called.Answered (exonResult t p place i m (codonColumns t o n k alt c))) (Called.Refused (closingRefusal false (isOutside c)))
+      → codingCalled code t p alt place i o n k m c
+      ≡ cond (eqb (closingRefusal false (isOutside c)) 0) (Called.Answered (codonResult t p place (Region.Coding i o n k m) (codonColumns code t o n k alt c))) (Called.Refused (closingRefusal false (isOutside c)))
   coded place i o n k m (FetchedCodon.Bases c) = refl
   coded place i o n k m FetchedCodon.OutsideWindow = refl
 
-  pub by-region : (place : VariantLocation) → regionCalled t p alt codon place (regionOf (t .coding) place) ≡ placeCalled t p alt codon place
+  pub by-region : (place : VariantLocation) → regionCalled code t p alt codon place (regionOf (t .coding) place) ≡ placeCalled code t p alt codon place
   unfolding placeCalled placeResult
   by-region (Upstream d) = refl
   by-region (Downstream d) = refl

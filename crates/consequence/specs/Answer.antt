@@ -1,14 +1,14 @@
 -- The whole answer for a base at a place, before the splice spill.
 use Prim.Native.Nat.{ℕ, _+_, _-_}
-use mathlib.Core.Bool.{Bool, true, false, cond}
+use mathlib.Core.Bool.{cond}
+use mathlib.Core.List.{List}
 use lib.ListN.{length}
 use Rattle.common.specs.Text.{byte}
 use Rattle.codon.specs.declared.Codon.{Codon}
 use Rattle.codon.specs.declared.Codons.{Codons}
 use Rattle.codon.specs.declared.AminoAcids.{AminoAcids}
-use Rattle.codon.specs.Table.{standardTable, translateCodon, translateReferenceCodon, buildAltCodon}
+use Rattle.codon.specs.Table.{translateCodon, translateReferenceCodon, buildAltCodon}
 use Rattle.locate.specs.declared.VariantLocation.{VariantLocation}
-use Rattle.locate.specs.declared.VariantLocation.the-variants.{Upstream, Downstream, Distal, FivePrimeUtr, CdsExon, ThreePrimeUtr, SpliceDonor, SpliceAcceptor, SpliceRegion, Intron, FrameshiftIntron, NonCodingExon, NonCodingIntron}
 use Rattle.transcript.specs.Orient.{Oriented}
 use Rattle.locate.specs.Place.{cdnaPosition}
 use Rattle.consequence.specs.declared.FetchedCodon.{FetchedCodon}
@@ -16,11 +16,12 @@ use Rattle.consequence.specs.declared.Numbered.{Numbered}
 use Rattle.consequence.specs.declared.Counted.{Counted}
 use Rattle.consequence.specs.declared.columns.CodonColumns.{CodonColumns}
 use Rattle.consequence.specs.declared.ConsequenceResult.{ConsequenceResult}
-use Rattle.terms.specs.declared.Consequence.{Consequence}
-use Rattle.terms.specs.declared.Consequence.the-variants.{SpliceAcceptorVariant, SpliceDonorVariant, SpliceRegionVariant, IncompleteTerminalCodonVariant, CodingSequenceVariant, FivePrimeUtrVariant, ThreePrimeUtrVariant, NonCodingTranscriptExonVariant, IntronVariant, NonCodingTranscriptVariant, UpstreamGeneVariant, DownstreamGeneVariant}
-use Rattle.terms.specs.Terms.{only, withTerm, withTermIf}
+use Rattle.consequence.specs.declared.region.Region.{Region}
+use Rattle.terms.specs.declared.Consequence.the-variants.{IncompleteTerminalCodonVariant, CodingSequenceVariant}
+use Rattle.terms.specs.Terms.{only, withTerm}
 use Rattle.consequence.specs.Reading.{isIncompleteTerminalCodon, holdsSelenocysteine}
 use Rattle.terms.specs.Coding.{codingTerm}
+use Rattle.consequence.specs.Region.{regionOf, regionTerms}
 use Rattle.consequence.specs.Coding.{isStartCodon, showsCodon, shownLetters}
 
 -- outside the transcript only the place and the term are given
@@ -63,13 +64,13 @@ pub record Columns : Type 0 where
 abbrev pub columnsOf : CodonColumns → Columns
 columnsOf c = record { position = c .position; number = c .number; codons = c .codons; letters = c .letters; terms = c .terms .0 }
 
--- an exon base that is not coding has its term alone
-abbrev pub termAlone : Consequence → Columns
-termAlone c = record { position = Counted.Absent; number = Counted.Absent; codons = Codons.Absent; letters = AminoAcids.Absent; terms = only c }
+-- a base that is not coding has no codon
+abbrev pub noCodon : Columns
+noCodon = record { position = Counted.Absent; number = Counted.Absent; codons = Codons.Absent; letters = AminoAcids.Absent; terms = 0 }
 
--- in exon i at position p; the splice mark adds splice_region_variant
-abbrev pub exonResult : Oriented → ℕ → VariantLocation → ℕ → Bool → Columns → ConsequenceResult
-exonResult t p place i mark c = record {
+-- in exon i at position p
+abbrev pub exonResult : Oriented → ℕ → VariantLocation → ℕ → Columns → ℕ → ConsequenceResult
+exonResult t p place i c terms = record {
   location = place;
   exon = Numbered.Of (i + 1) (length (t .exons));
   intron = Numbered.Absent;
@@ -78,7 +79,7 @@ exonResult t p place i mark c = record {
   «protein_start» = c .number;
   codons = c .codons;
   «amino_acids» = c .letters;
-  consequences = record { 0 = withTermIf mark (c .terms) SpliceRegionVariant };
+  consequences = record { 0 = terms };
 }
 
 -- an unfinished last codon: its own bases as codons, letter X
@@ -101,37 +102,41 @@ wholeCodon t offset number c altered k ref alt = record {
   terms = only (codingTerm (isStartCodon t number) ref alt);
 }
 
--- codon c of that number, whose base at place k becomes `altered`'s; only the reference codon can read U
-abbrev pub readCodon : Oriented → ℕ → ℕ → Codon → Codon → ℕ → Columns
-readCodon t offset number c altered k =
+-- codon c of that number in a genetic code, whose base at place k becomes `altered`'s; only the reference codon can read U
+abbrev pub readCodon : List ℕ → Oriented → ℕ → ℕ → Codon → Codon → ℕ → Columns
+readCodon code t offset number c altered k =
     cond (isIncompleteTerminalCodon t offset)
     (incompleteCodon offset number c altered k)
     (wholeCodon t offset number c altered k
-    (translateReferenceCodon standardTable (holdsSelenocysteine t number) c)
-    (translateCodon standardTable altered))
+    (translateReferenceCodon code (holdsSelenocysteine t number) c)
+    (translateCodon code altered))
 
 -- a codon outside the window is refused before (21)
-unfoldable pub codonColumns : Oriented → ℕ → ℕ → ℕ → ℕ → FetchedCodon → Columns
-codonColumns t offset number k alt (FetchedCodon.Bases c) = readCodon t offset number c (buildAltCodon c k alt) k
-codonColumns t offset number k alt FetchedCodon.OutsideWindow = termAlone CodingSequenceVariant
+unfoldable pub codonColumns : List ℕ → Oriented → ℕ → ℕ → ℕ → ℕ → FetchedCodon → Columns
+codonColumns code t offset number k alt (FetchedCodon.Bases c) = readCodon code t offset number c (buildAltCodon c k alt) k
+codonColumns code t offset number k alt FetchedCodon.OutsideWindow = noCodon
 
--- a short intron has no splice or intron term
-abbrev pub frameshiftTerm : Bool → Consequence
-frameshiftTerm true = CodingSequenceVariant
-frameshiftTerm false = NonCodingTranscriptVariant
+-- what the codon of a region gives; `alt` is the coding base put in, and `codon` gives the codon that holds a padded offset
+abbrev pub regionColumns : List ℕ → Oriented → ℕ → (ℕ → FetchedCodon) → Region → Columns
+regionColumns code t alt codon Region.Distal = noCodon
+regionColumns code t alt codon (Region.Flank c) = noCodon
+regionColumns code t alt codon (Region.Intron i c m) = noCodon
+regionColumns code t alt codon (Region.Exon i c m) = noCodon
+regionColumns code t alt codon (Region.Coding i o n k m) = codonColumns code t o n k alt (codon o)
 
--- by place; `alt` is the coding base put in, and `codon` gives the codon that holds a padded offset. Distal is refused before (19)
-unfoldable pub placeResult : Oriented → ℕ → ℕ → (ℕ → FetchedCodon) → VariantLocation → ConsequenceResult
-placeResult t p alt codon (Upstream d) = flankResult (Upstream d) (only UpstreamGeneVariant)
-placeResult t p alt codon (Downstream d) = flankResult (Downstream d) (only DownstreamGeneVariant)
-placeResult t p alt codon Distal = flankResult Distal 0
-placeResult t p alt codon (FivePrimeUtr i d m) = exonResult t p (FivePrimeUtr i d m) i m (termAlone FivePrimeUtrVariant)
-placeResult t p alt codon (CdsExon i g o n k m) = exonResult t p (CdsExon i g o n k m) i m (codonColumns t o n k alt (codon o))
-placeResult t p alt codon (ThreePrimeUtr i d m) = exonResult t p (ThreePrimeUtr i d m) i m (termAlone ThreePrimeUtrVariant)
-placeResult t p alt codon (SpliceDonor i d) = intronResult t (SpliceDonor i d) i (only SpliceDonorVariant)
-placeResult t p alt codon (SpliceAcceptor i d) = intronResult t (SpliceAcceptor i d) i (only SpliceAcceptorVariant)
-placeResult t p alt codon (SpliceRegion i s d) = intronResult t (SpliceRegion i s d) i (withTerm (only IntronVariant) SpliceRegionVariant)
-placeResult t p alt codon (Intron i d) = intronResult t (Intron i d) i (only IntronVariant)
-placeResult t p alt codon (FrameshiftIntron i d) = intronResult t (FrameshiftIntron i d) i (only (frameshiftTerm (t .coding)))
-placeResult t p alt codon (NonCodingExon i m) = exonResult t p (NonCodingExon i m) i m (termAlone NonCodingTranscriptExonVariant)
-placeResult t p alt codon (NonCodingIntron i d) = intronResult t (NonCodingIntron i d) i (only IntronVariant)
+-- the answer in a region with these columns and terms. Distal is refused before (19)
+abbrev pub regionResult : Oriented → ℕ → VariantLocation → Region → Columns → ℕ → ConsequenceResult
+regionResult t p place Region.Distal c terms = flankResult place terms
+regionResult t p place (Region.Flank term) c terms = flankResult place terms
+regionResult t p place (Region.Intron i term m) c terms = intronResult t place i terms
+regionResult t p place (Region.Exon i term m) c terms = exonResult t p place i c terms
+regionResult t p place (Region.Coding i o n k m) c terms = exonResult t p place i c terms
+
+-- the answer in a region, from its codon
+abbrev pub codonResult : Oriented → ℕ → VariantLocation → Region → Columns → ConsequenceResult
+codonResult t p place region c = regionResult t p place region c (regionTerms (c .terms) region)
+
+-- the answer at a place in a genetic code
+unfoldable pub placeResult : List ℕ → Oriented → ℕ → ℕ → (ℕ → FetchedCodon) → VariantLocation → ConsequenceResult
+placeResult code t p alt codon place =
+    codonResult t p place (regionOf (t .coding) place) (regionColumns code t alt codon (regionOf (t .coding) place))

@@ -4,6 +4,7 @@ use mathlib.Core.Bool.{Bool, true, false, cond, not, _&&_, _||_}
 use lib.Dec.{eqb}
 use Rattle.common.specs.Refuse.{refuse, orElse}
 use Rattle.codon.specs.Bases.{isBase}
+use Rattle.codon.specs.Table.{standardTable}
 use Rattle.footprint.specs.declared.SpliceSpill.{SpliceSpill}
 use Rattle.locate.specs.declared.VariantLocation.{VariantLocation}
 use Rattle.footprint.specs.declared.Ranges.{Ranges}
@@ -81,7 +82,7 @@ unfoldable pub callResult : Ranges → Transcript → Window → Call → Conseq
 callResult r t w q =
     addSpliceSpill
     (exonicSpliceSpill (oriented t) (interval (orientBase (t .model .strand) (q .position)) (orientBase (t .model .strand) (q .position) + 1)))
-    (placeResult (oriented t) (orientBase (t .model .strand) (q .position)) (codingByte (t .model .strand) (q .«alt_base»)) (callCodon t w) (callPlace r t q))
+    (placeResult standardTable (oriented t) (orientBase (t .model .strand) (q .position)) (codingByte (t .model .strand) (q .«alt_base»)) (callCodon t w) (callPlace r t q))
 
 -- the whole answer to a call
 unfoldable pub annotateSnv : Ranges → Transcript → Window → Call → Called

@@ -1,9 +1,10 @@
 pub mod Window
 pub mod Reading
 pub mod Coding
+pub mod Region
 pub mod Answer
 pub mod Call
 pub mod Numbers
-pub mod Region
+pub mod AtPlace
 pub mod Segments
 pub mod Prepared

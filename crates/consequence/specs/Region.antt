@@ -1,19 +1,20 @@
--- What an answer takes from a place, and the answer there before the splice spill.
+-- Which part of a transcript a place is in, and the terms there.
 use Prim.Native.Nat.{ℕ}
-use mathlib.Core.Bool.{Bool, true, false, cond}
-use lib.Dec.{eqb}
+use mathlib.Core.Bool.{Bool, true, false}
 use Rattle.locate.specs.declared.VariantLocation.{VariantLocation}
 use Rattle.locate.specs.declared.VariantLocation.the-variants.{Upstream, Downstream, Distal, FivePrimeUtr, CdsExon, ThreePrimeUtr, SpliceDonor, SpliceAcceptor, SpliceRegion, Intron, FrameshiftIntron, NonCodingExon, NonCodingIntron}
-use Rattle.locate.specs.PlaceKind.{isDistal}
-use Rattle.transcript.specs.Orient.{Oriented}
-use Rattle.terms.specs.declared.Consequence.the-variants.{SpliceAcceptorVariant, SpliceDonorVariant, FivePrimeUtrVariant, ThreePrimeUtrVariant, NonCodingTranscriptExonVariant, IntronVariant, UpstreamGeneVariant, DownstreamGeneVariant}
-use Rattle.consequence.specs.declared.FetchedCodon.{FetchedCodon}
-use Rattle.consequence.specs.declared.Called.{Called}
+use Rattle.terms.specs.declared.Consequence.{Consequence}
+use Rattle.terms.specs.declared.Consequence.the-variants.{SpliceAcceptorVariant, SpliceDonorVariant, SpliceRegionVariant, CodingSequenceVariant, FivePrimeUtrVariant, ThreePrimeUtrVariant, NonCodingTranscriptExonVariant, IntronVariant, NonCodingTranscriptVariant, UpstreamGeneVariant, DownstreamGeneVariant}
+use Rattle.terms.specs.Terms.{only, withTermIf}
 use Rattle.consequence.specs.declared.region.Region.{Region}
-use Rattle.consequence.specs.Answer.{exonResult, codonColumns, frameshiftTerm, placeResult}
-use Rattle.consequence.specs.Call.{lacksCodon, closingRefusal}
 
--- SpliceRegion has the mark of an intron
+-- a short intron has no splice or intron term
+abbrev pub frameshiftTerm : Bool → Consequence
+frameshiftTerm true = CodingSequenceVariant
+frameshiftTerm false = NonCodingTranscriptVariant
+
+-- the index of the exon or intron, its term and its splice mark; a coding base has its codon in place of a term. SpliceRegion has the
+-- mark of an intron
 abbrev pub regionOf : Bool → VariantLocation → Region
 regionOf coding (Upstream d) = Region.Flank UpstreamGeneVariant
 regionOf coding (Downstream d) = Region.Flank DownstreamGeneVariant
@@ -29,14 +30,14 @@ regionOf coding (FrameshiftIntron i d) = Region.Intron i (frameshiftTerm coding)
 regionOf coding (NonCodingExon i m) = Region.Exon i NonCodingTranscriptExonVariant m
 regionOf coding (NonCodingIntron i d) = Region.Intron i IntronVariant false
 
--- a coding base in exon i, with its codon
-abbrev pub codingCalled : Oriented → ℕ → ℕ → VariantLocation → ℕ → ℕ → ℕ → ℕ → Bool → FetchedCodon → Called
-codingCalled t p alt place i o n k m (FetchedCodon.Bases c) = Called.Answered (exonResult t p place i m (codonColumns t o n k alt (FetchedCodon.Bases c)))
-codingCalled t p alt place i o n k m FetchedCodon.OutsideWindow = Called.Refused 21
+-- the splice mark adds splice_region_variant
+abbrev pub withMark : Bool → ℕ → ℕ
+withMark mark terms = withTermIf mark terms SpliceRegionVariant
 
--- the answer at a place before the spill, or its refusal
-unfoldable pub placeCalled : Oriented → ℕ → ℕ → (ℕ → FetchedCodon) → VariantLocation → Called
-placeCalled t p alt codon place =
-    cond (eqb (closingRefusal (isDistal place) (lacksCodon codon place)) 0)
-    (Called.Answered (placeResult t p alt codon place))
-    (Called.Refused (closingRefusal (isDistal place) (lacksCodon codon place)))
+-- the terms of a region, where a coding base has those of its codon
+abbrev pub regionTerms : ℕ → Region → ℕ
+regionTerms codon Region.Distal = 0
+regionTerms codon (Region.Flank c) = only c
+regionTerms codon (Region.Intron i c m) = withMark m (only c)
+regionTerms codon (Region.Exon i c m) = withMark m (only c)
+regionTerms codon (Region.Coding i o n k m) = withMark m codon

@@ -5,6 +5,7 @@ use super::answer::add_splice_spill;
 use super::place::annotate_place;
 use super::refusal::opening_refusal;
 use super::spill::spill_at;
+use footprint::Ranges;
 use locate::IndexScalars;
 use locate::place::place_of_base;
 use transcript::TranscriptModel;
@@ -12,12 +13,12 @@ use transcript::question::base_of;
 ghost use mathlib.Core.Path.{_≡_};
 ghost use Rattle.transcript.specs.Transcript.{given, wasGiven};
 ghost use Rattle.consequence.specs.Window.{windowWasGiven};
-ghost use Rattle.footprint.specs.Ranges.{sourceRanges};
 ghost use Rattle.consequence.specs.Call.{annotateSnv};
 ghost use Rattle.consequence.specs.Prepared.{Prepared};
 
 // The answer from the transcript's index, or the number of the refusal: 15, 14, 20, 16, 17, 18, 19 and 21.
 pub fn annotate_admitted(
+    ranges: Ranges,
     window_chromosome: u16,
     window_first: u64,
     window: &[u8],
@@ -40,7 +41,7 @@ pub fn annotate_admitted(
     ensures { λ r.
         let t = wasGiven model «exon_starts» «exon_ends» «seg_phases» «seg_exons» «seg_starts» «seg_ends» selenocysteine in
         let w = windowWasGiven «window_chromosome» «window_first» window in
-        ⌜ r ≡ annotateSnv sourceRanges t w call ⌝ }
+        ⌜ r ≡ annotateSnv ranges t w call ⌝ }
 {
     let refusal = opening_refusal(
         model.chromosome,
@@ -55,6 +56,7 @@ pub fn annotate_admitted(
     let strand = model.strand;
     let p = base_of(strand, call.position);
     let place = place_of_base(
+        ranges,
         model,
         exon_starts,
         exon_ends,
@@ -68,6 +70,7 @@ pub fn annotate_admitted(
         p,
     );
     let placed = annotate_place(
+        ranges,
         window_first,
         window,
         call.alt_base,

@@ -8,7 +8,6 @@ use codon::Codons;
 use footprint::SpliceSpill;
 use locate::CdnaPosition;
 use locate::VariantLocation;
-use terms::Consequence;
 use terms::TermSet;
 use terms::spill_terms;
 ghost use mathlib.Core.Path.{_≡_};
@@ -16,14 +15,12 @@ ghost use Prim.Native.Nat.{ℕ, _<_};
 ghost use lib.ListN.{length};
 ghost use Rattle.transcript.specs.Orient.{Oriented};
 ghost use Rattle.locate.specs.Place.{cdnaPosition};
-ghost use Rattle.terms.specs.declared.Consequence.the-variants.{SpliceRegionVariant};
-ghost use Rattle.terms.specs.Terms.{only, withTermIf};
 ghost use Rattle.consequence.specs.Answer.{flankResult, intronResult, exonResult, columnsOf};
 ghost use Rattle.consequence.specs.Call.{addSpliceSpill};
 
 // Outside the transcript.
-pub(crate) fn flank_result(place: VariantLocation, term: Consequence) -> ConsequenceResult
-    ensures { λ r. ⌜ r ≡ flankResult place (only term) ⌝ }
+pub(crate) fn flank_result(place: VariantLocation, terms: TermSet) -> ConsequenceResult
+    ensures { λ r. ⌜ r ≡ flankResult place (terms .0) ⌝ }
 {
     ConsequenceResult {
         location: place,
@@ -34,25 +31,22 @@ pub(crate) fn flank_result(place: VariantLocation, term: Consequence) -> Consequ
         protein_start: Counted::Absent,
         codons: Codons::Absent,
         amino_acids: AminoAcids::Absent,
-        consequences: TermSet::of(term),
+        consequences: terms,
     }
 }
 
-// In intron i of a transcript of so many exons; the splice mark adds its term.
+// In intron i of a transcript of so many exons.
 pub(crate) fn intron_result(
     place: VariantLocation,
     exons: u16,
     i: u16,
-    term: Consequence,
-    mark: bool,
+    terms: TermSet,
 ) -> ConsequenceResult
     requires { ⌜ (i < 65535) × (0 < exons) ⌝ }
     ensures { λ r. ⌜ ((t : Oriented)
         → length (t .exons) ≡ exons
-        → r ≡ intronResult t place i (withTermIf mark (only term) SpliceRegionVariant)) ⌝ }
+        → r ≡ intronResult t place i (terms .0)) ⌝ }
 {
-    let terms = TermSet::of(term);
-    let consequences = terms.with_if(mark, Consequence::SpliceRegionVariant);
     ConsequenceResult {
         location: place,
         exon: Numbered::Absent,
@@ -65,7 +59,7 @@ pub(crate) fn intron_result(
         protein_start: Counted::Absent,
         codons: Codons::Absent,
         amino_acids: AminoAcids::Absent,
-        consequences,
+        consequences: terms,
     }
 }
 
@@ -95,27 +89,25 @@ pub(crate) fn add_splice_spill(s: SpliceSpill, a: ConsequenceResult) -> Conseque
     }
 }
 
-// In exon i; the splice mark adds its term.
+// In exon i, with what its codon gives.
 pub(crate) fn exon_result(
     place: VariantLocation,
     exons: u16,
     i: u16,
     cdna: CdnaPosition,
-    mark: bool,
     c: CodonColumns,
+    terms: TermSet,
 ) -> ConsequenceResult
     requires { ⌜ i < 65535 ⌝ }
     ensures { λ r. ⌜ ((t : Oriented) (p : ℕ)
         → length (t .exons) ≡ exons
         → cdnaPosition t p ≡ cdna .0
-        → r ≡ exonResult t p place i mark (columnsOf c)) ⌝ }
+        → r ≡ exonResult t p place i (columnsOf c) (terms .0)) ⌝ }
 {
     let cds_position = c.position;
     let protein_start = c.number;
     let codons = c.codons;
     let amino_acids = c.letters;
-    let terms = c.terms;
-    let consequences = terms.with_if(mark, Consequence::SpliceRegionVariant);
     ConsequenceResult {
         location: place,
         exon: Numbered::Of {
@@ -128,6 +120,6 @@ pub(crate) fn exon_result(
         protein_start,
         codons,
         amino_acids,
-        consequences,
+        consequences: terms,
     }
 }

@@ -7,6 +7,7 @@ use super::letters::is_padded_codon;
 use super::letters::is_start_codon;
 use super::reading::fetch_ref_codon;
 use super::reading::is_incomplete_terminal_codon;
+use super::region::with_mark;
 use super::selenocysteine::holds_selenocysteine;
 use super::window::coding_byte;
 use locate::CdsOffset;
@@ -17,6 +18,7 @@ use transcript::Strand;
 ghost use mathlib.Core.Path.{_≡_};
 ghost use Prim.Native.Nat.{ℕ, _-_, _+_, _<_, _≤_};
 ghost use lib.ListN.{length, getD};
+ghost use Rattle.codon.specs.Table.{standardTable};
 ghost use Rattle.transcript.specs.Limits.{top};
 ghost use Rattle.transcript.specs.Orient.{Oriented};
 ghost use Rattle.transcript.specs.Lent.{lentExons};
@@ -25,7 +27,7 @@ ghost use Rattle.common.specs.Stored.{filled};
 ghost use Rattle.locate.specs.Index.{selenocysteineCodons, indexScalars};
 ghost use Rattle.consequence.specs.Window.{windowFrom, codingByte, codingBase};
 ghost use Rattle.consequence.specs.Reading.{fetchCodon};
-ghost use Rattle.consequence.specs.Region.{codingCalled};
+ghost use Rattle.consequence.specs.AtPlace.{codingCalled};
 ghost use Rattle.consequence.specs.Segments.{Segments};
 
 // A base of exon i at that padded offset, of that codon and place in it, marked or not, with `alt_base` put in. Refusal 21 where the
@@ -67,7 +69,8 @@ pub(crate) fn annotate_cds_snv(
         → t .segments ≡ lentExons strand (now starts.entry) (now ends.entry)
         → now codons.entry ≡ filled 64 (selenocysteineCodons t)
         → cdnaPosition t p ≡ scalars .«utr5_exonic_len» + (offset - scalars .«cds_start_pad») + 1
-        → r ≡ codingCalled t p (codingByte strand «alt_base») place i offset number position mark (fetchCodon t base offset)) ⌝ }
+        → r ≡ codingCalled standardTable t p (codingByte strand «alt_base»)
+            place i offset number position mark (fetchCodon t base offset)) ⌝ }
 {
     let codon = fetch_ref_codon(scalars, strand, starts, ends, sums, first, bytes, offset);
     let FetchedCodon::Bases(c) = codon else {
@@ -89,5 +92,6 @@ pub(crate) fn annotate_cds_snv(
         scalars.cds_start_pad,
         CdsOffset(offset),
     );
-    Called::Answered(exon_result(place, exons, i, cdna, mark, columns))
+    let terms = with_mark(columns.terms, mark);
+    Called::Answered(exon_result(place, exons, i, cdna, columns, terms))
 }

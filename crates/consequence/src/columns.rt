@@ -15,10 +15,10 @@ ghost use mathlib.Core.Path.{_≡_};
 ghost use Prim.Native.Nat.{_+_, _≤_};
 ghost use Rattle.transcript.specs.Limits.{top};
 ghost use Rattle.transcript.specs.Orient.{Oriented};
-ghost use Rattle.codon.specs.Table.{buildAltCodon};
+ghost use Rattle.codon.specs.Table.{standardTable, buildAltCodon};
 ghost use Rattle.consequence.specs.Reading.{isIncompleteTerminalCodon, holdsSelenocysteine};
 ghost use Rattle.consequence.specs.Coding.{isStartCodon, isPaddedCodon};
-ghost use Rattle.consequence.specs.Answer.{columnsOf, termAlone, incompleteCodon, wholeCodon, readCodon};
+ghost use Rattle.consequence.specs.Answer.{columnsOf, noCodon, incompleteCodon, wholeCodon, readCodon};
 
 // What an exon base gives to an answer, from its codon where it is coding.
 pub struct CodonColumns {
@@ -29,16 +29,16 @@ pub struct CodonColumns {
     pub terms: TermSet,
 }
 
-// An exon base that is not coding has its term alone.
-pub(crate) fn term_alone(term: Consequence) -> CodonColumns
-    ensures { λ r. ⌜ columnsOf r ≡ termAlone term ⌝ }
+// A base that is not coding has no codon.
+pub(crate) fn no_codon() -> CodonColumns
+    ensures { λ r. ⌜ columnsOf r ≡ noCodon ⌝ }
 {
     CodonColumns {
         position: Counted::Absent,
         number: Counted::Absent,
         codons: Codons::Absent,
         letters: AminoAcids::Absent,
-        terms: TermSet::of(term),
+        terms: TermSet::none(),
     }
 }
 
@@ -122,7 +122,7 @@ pub(crate) fn read_codon(
         → padded ≡ isPaddedCodon t number
         → incomplete ≡ isIncompleteTerminalCodon t offset
         → selenocysteine ≡ holdsSelenocysteine t number
-        → columnsOf r ≡ readCodon t offset number c (buildAltCodon c k b) k) ⌝ }
+        → columnsOf r ≡ readCodon standardTable t offset number c (buildAltCodon c k b) k) ⌝ }
 {
     let altered = build_alt_codon(c, k, b);
     if incomplete {

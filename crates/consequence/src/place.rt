@@ -5,24 +5,28 @@ use super::answer::flank_result;
 use super::answer::intron_result;
 use super::cdna::compute_cdna_position_exonic;
 use super::coding::annotate_cds_snv;
-use super::columns::term_alone;
+use super::columns::no_codon;
 use super::region::Region;
 use super::region::region_of;
+use super::region::with_mark;
+use footprint::Ranges;
 use locate::IndexScalars;
 use locate::VariantLocation;
+use terms::TermSet;
 use transcript::TranscriptModel;
 ghost use mathlib.Core.Path.{_≡_};
+ghost use Rattle.codon.specs.Table.{standardTable};
 ghost use Rattle.transcript.specs.Transcript.{given, wasGiven};
 ghost use Rattle.transcript.specs.Orient.{oriented};
-ghost use Rattle.footprint.specs.Ranges.{sourceRanges};
 ghost use Rattle.locate.specs.Place.{locate};
 ghost use Rattle.consequence.specs.Window.{windowFrom, codingByte};
 ghost use Rattle.consequence.specs.Call.{callCodon};
-ghost use Rattle.consequence.specs.Region.{placeCalled};
+ghost use Rattle.consequence.specs.AtPlace.{placeCalled};
 ghost use Rattle.consequence.specs.Prepared.{Prepared};
 
 // `place` is that of p, an oriented base, and `alt_base` is put in there. Refusals 19 and 21.
 pub(crate) fn annotate_place(
+    ranges: Ranges,
     first: u64,
     bytes: &[u8],
     alt_base: u8,
@@ -43,20 +47,21 @@ pub(crate) fn annotate_place(
 ) -> Called
     requires { let t = given model «exon_starts» «exon_ends» «seg_phases» «seg_exons» «seg_starts» «seg_ends» selenocysteine in
         ⌜ Prepared t scalars (now «cumulative_exons») (now «cumulative_cds») (now «selenocysteine_codons») ⌝
-        ∗ ⌜ place ≡ locate sourceRanges (oriented t) p ⌝ }
+        ∗ ⌜ place ≡ locate ranges (oriented t) p ⌝ }
     ensures { λ r.
         let t = wasGiven model «exon_starts» «exon_ends» «seg_phases» «seg_exons» «seg_starts» «seg_ends» selenocysteine in
         let w = windowFrom first (now bytes.entry) in
-        ⌜ r ≡ placeCalled (oriented t) p (codingByte (model .strand) «alt_base») (callCodon t w) place ⌝ }
+        ⌜ r ≡ placeCalled standardTable (oriented t) p (codingByte (model .strand) «alt_base») (callCodon t w) place ⌝ }
 {
     let exons = model.exon_count;
     let strand = model.strand;
     let region = region_of(place, 0 < seg_starts.len());
     match region {
         Region::Distal => Called::Refused(19),
-        Region::Flank { term } => Called::Answered(flank_result(place, term)),
+        Region::Flank { term } => Called::Answered(flank_result(place, TermSet::of(term))),
         Region::Intron { index, term, mark } => {
-            Called::Answered(intron_result(place, exons, index, term, mark))
+            let terms = with_mark(TermSet::of(term), mark);
+            Called::Answered(intron_result(place, exons, index, terms))
         }
         Region::Exon { index, term, mark } => {
             let cdna = compute_cdna_position_exonic(
@@ -67,7 +72,8 @@ pub(crate) fn annotate_place(
                 index as usize,
                 p,
             );
-            Called::Answered(exon_result(place, exons, index, cdna, mark, term_alone(term)))
+            let terms = with_mark(TermSet::of(term), mark);
+            Called::Answered(exon_result(place, exons, index, cdna, no_codon(), terms))
         }
         Region::Coding {
             index,

@@ -1,9 +1,9 @@
 // What an answer takes from a place.
 use locate::VariantLocation;
 use terms::Consequence;
+use terms::TermSet;
 ghost use mathlib.Core.Path.{_≡_};
-ghost use Rattle.consequence.specs.Answer.{frameshiftTerm};
-ghost use Rattle.consequence.specs.Region.{regionOf};
+ghost use Rattle.consequence.specs.Region.{frameshiftTerm, regionOf, withMark};
 
 // The index of the exon or intron, its term and its splice mark. A coding base has its padded offset, its codon number and its place in
 // the codon in place of a term.
@@ -39,6 +39,13 @@ fn frameshift_term(coding: bool) -> Consequence
         return Consequence::CodingSequenceVariant;
     }
     Consequence::NonCodingTranscriptVariant
+}
+
+// The splice mark adds its term.
+pub(crate) fn with_mark(terms: TermSet, mark: bool) -> TermSet
+    ensures { λ r. ⌜ r .0 ≡ withMark mark (terms .0) ⌝ }
+{
+    terms.with_if(mark, Consequence::SpliceRegionVariant)
 }
 
 // The region of a place in a transcript with or without a CDS.

@@ -3,6 +3,7 @@ use super::Call;
 use super::Called;
 use super::summed::annotate_summed;
 use footprint::has_frameshift_intron;
+use footprint::source_ranges;
 use locate::sum_up;
 use transcript::Admission;
 use transcript::TranscriptModel;
@@ -63,7 +64,9 @@ pub fn annotate_snv(
         seg_ends,
         selenocysteine,
     );
+    let ranges = source_ranges();
     annotate_summed(
+        ranges,
         window_chromosome,
         window_first,
         window,

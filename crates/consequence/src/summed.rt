@@ -2,19 +2,20 @@
 use super::Call;
 use super::Called;
 use super::admitted::annotate_admitted;
+use footprint::Ranges;
 use locate::scalars_of;
 use locate::selenocysteine_codons;
 use transcript::TranscriptModel;
 ghost use mathlib.Core.Path.{_≡_};
 ghost use Rattle.transcript.specs.Transcript.{given, wasGiven};
 ghost use Rattle.consequence.specs.Window.{windowWasGiven};
-ghost use Rattle.footprint.specs.Ranges.{sourceRanges};
 ghost use Rattle.consequence.specs.Call.{annotateSnv};
 ghost use Rattle.consequence.specs.Prepared.{Summed};
 
 // The answer from the cumulative lengths of exons and CDS and whether there is a short intron, or the number of the refusal: 15,
 // 14, 20, 16, 17, 18, 19 and 21.
 pub fn annotate_summed(
+    ranges: Ranges,
     window_chromosome: u16,
     window_first: u64,
     window: &[u8],
@@ -36,7 +37,7 @@ pub fn annotate_summed(
     ensures { λ r.
         let t = wasGiven model «exon_starts» «exon_ends» «seg_phases» «seg_exons» «seg_starts» «seg_ends» selenocysteine in
         let w = windowWasGiven «window_chromosome» «window_first» window in
-        ⌜ r ≡ annotateSnv sourceRanges t w call ⌝ }
+        ⌜ r ≡ annotateSnv ranges t w call ⌝ }
 {
     let scalars = scalars_of(
         model,
@@ -61,6 +62,7 @@ pub fn annotate_summed(
     );
     let selenocysteine_codons = codons.numbers;
     annotate_admitted(
+        ranges,
         window_chromosome,
         window_first,
         window,

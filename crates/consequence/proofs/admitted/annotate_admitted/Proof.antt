@@ -11,7 +11,6 @@ use Rattle.transcript.specs.Transcript.{Transcript, lent}
 use Rattle.transcript.specs.Orient.{interval, oriented}
 use Rattle.transcript.proofs.Asking.{base-low}
 use Rattle.footprint.specs.declared.SpliceSpill.{SpliceSpill}
-use Rattle.footprint.specs.Ranges.{sourceRanges}
 use Rattle.footprint.specs.ShortIntron.{exonicSpliceSpill}
 use Rattle.locate.specs.declared.IndexScalars.{IndexScalars}
 use Rattle.consequence.specs.declared.Called.{Called}
@@ -56,10 +55,10 @@ abbrev spill : tie.After-base-of → SpliceSpill
 spill c = exonicSpliceSpill (oriented (transcript (start (c .before)))) (interval (c .base-of .result) (c .base-of .result + 1))
 
 whole : (c : tie.After-annotate-place) (s : SpliceSpill) → s ≡ spill (c .before .before)
-    → spilled s (c .annotate-place .result) ≡ annotateSnv sourceRanges (transcript (start (c .before .before .before))) (window (start (c .before .before .before))) (start (c .before .before .before) .args .call)
+    → spilled s (c .annotate-place .result) ≡ annotateSnv (start (c .before .before .before) .args .ranges) (transcript (start (c .before .before .before))) (window (start (c .before .before .before))) (start (c .before .before .before) .args .call)
 whole c s e =
     let b = start (c .before .before .before) in
-    answered (transcript b) (window b) (b .args .call) (opened (c .before .before .before)) (c .before .before .base-of .result) (c .before .before .base-of .ensures) (c .before .place-of-base .result) (c .before .place-of-base .ensures)
+    answered (b .args .ranges) (transcript b) (window b) (b .args .call) (opened (c .before .before .before)) (c .before .before .base-of .result) (c .before .before .base-of .ensures) (c .before .place-of-base .result) (c .before .place-of-base .ensures)
     (c .annotate-place .result) (c .annotate-place .ensures) s e
 
 opening-refusal-requires : tie.Need-opening-refusal-requires
@@ -69,7 +68,7 @@ returns : tie.Need-returns
 returns c =
     let b = c .before .before .before .before .before .before .before .before .before .before .before .before in
     let r = c .before .opening-refusal in
-    refused (transcript b) (window b) (b .args .call) (r .result) (omega arith) (sym (r .ensures (transcript b) (b .pre .admitted) refl))
+    refused (b .args .ranges) (transcript b) (window b) (b .args .call) (r .result) (omega arith) (sym (r .ensures (transcript b) (b .pre .admitted) refl))
 
 base-of-requires : tie.Need-base-of-requires
 base-of-requires c κs = within c

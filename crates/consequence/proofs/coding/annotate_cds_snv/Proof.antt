@@ -8,18 +8,19 @@ use Rattle.locate.specs.Place.{totalCdsLength}
 use Rattle.locate.specs.Index.{indexScalars}
 use Rattle.consequence.specs.declared.FetchedCodon.{FetchedCodon}
 use Rattle.consequence.specs.declared.Called.{Called}
-use Rattle.codon.specs.Table.{buildAltCodon}
+use Rattle.consequence.specs.declared.region.Region.{Region}
+use Rattle.codon.specs.Table.{standardTable, buildAltCodon}
 use Rattle.consequence.specs.Window.{codingByte}
 use Rattle.consequence.specs.Reading.{incompleteAt}
-use Rattle.consequence.specs.Region.{codingCalled}
-use Rattle.consequence.specs.Answer.{Columns, exonResult, readCodon, codonColumns}
+use Rattle.consequence.specs.AtPlace.{codingCalled}
+use Rattle.consequence.specs.Answer.{columnsOf, exonResult, codonResult, readCodon, codonColumns}
 use borrow.Author.Needs.{needs}
 use Rattle.consequence.proofs.coding.annotate_cds_snv.Statement.{statement}
 use Rattle.consequence.proofs.coding.annotate_cds_snv.Tie as tie
 
 -- the answer from the codon
 abbrev called : tie.Start → Oriented → ℕ → FetchedCodon → Called
-called b t p c = codingCalled t p (codingByte (b .args .strand) (b .args .alt-base)) (b .args .place) (b .args .i) (b .args .offset) (b .args .number) (b .args .position) (b .args .mark) c
+called b t p c = codingCalled standardTable t p (codingByte (b .args .strand) (b .args .alt-base)) (b .args .place) (b .args .i) (b .args .offset) (b .args .number) (b .args .position) (b .args .mark) c
 
 pad-of : (b : tie.Start) (t : Oriented) → b .args .scalars ≡ indexScalars t → t .pad ≡ b .args .scalars .«cds_start_pad»
 pad-of b t h = sym (ap (λ (x : IndexScalars). x .«cds_start_pad») h)
@@ -62,23 +63,29 @@ read-codon-requires c κs = c .before .before .before .before .before .before .b
 cdna-position-requires : tie.Need-cdna-position-requires
 cdna-position-requires c κs = let h = c .before .before .before .before .before .before .before .before .before .before .before .before .before .before .pre .1 .1 .1 in (h .2, h .3)
 
+with-mark-requires : tie.Need-with-mark-requires
+with-mark-requires c κs = search needs
+
 exon-result-requires : tie.Need-exon-result-requires
-exon-result-requires c κs = c .before .before .before .before .before .before .before .before .before .before .before .before .before .before .before .pre .1 .1 .1 .0
+exon-result-requires c κs = c .before .before .before .before .before .before .before .before .before .before .before .before .before .before .before .before .pre .1 .1 .1 .0
 
 returns-2 : tie.Need-returns-2
 unfolding codonColumns
 returns-2 c =
-    let b = c .before .before .before .before .before .before .before .before .before .before .before .before .before .before .before .before in
-    let d = c .before .before .before .before .before .before .before .before .before .codon in
+    let b = c .before .before .before .before .before .before .before .before .before .before .before .before .before .before .before .before .before in
+    let d = c .before .before .before .before .before .before .before .before .before .before .codon in
     let bases = d .given .0 .0 in
     λ t p he hs hc hg hu hd.
-    let start = c .before .before .before .before .before .before .before .is-start-codon .ensures t (pad-of b t hs) hc in
-    let padded = c .before .before .before .before .before .before .is-padded-codon .ensures t (pad-of b t hs) in
-    let unfinished = c .before .before .before .before .before .is-incomplete-terminal-codon .ensures ∙ ap (λ (n : ℕ). incompleteAt n (b .args .offset)) (sym (total-of b t hs)) in
-    let held = c .before .before .before .before .holds-selenocysteine .ensures t (ap (λ (x : IndexScalars). x .«selenocysteine_count») hs) hu in
-    let columns = c .before .before .read-codon .ensures t start padded unfinished held ∙ ap (λ (n : ℕ). readCodon t (b .args .offset) (b .args .number) bases (buildAltCodon bases (b .args .position) n) (b .args .position)) (c .before .before .before .coding-byte .ensures) in
-    ap Called.Answered (c .exon-result .ensures t p he (hd ∙ sym (c .before .cdna-position .ensures)) ∙ ap (λ (x : Columns). exonResult t p (b .args .place) (b .args .i) (b .args .mark) x) columns)
-    ∙ ap (called b t p) (sym (d .given .1) ∙ c .before .before .before .before .before .before .before .before .before .before .before .fetch-ref-codon .ensures t (pad-of b t hs) hg (total-of b t hs))
+    let start = c .before .before .before .before .before .before .before .before .is-start-codon .ensures t (pad-of b t hs) hc in
+    let padded = c .before .before .before .before .before .before .before .is-padded-codon .ensures t (pad-of b t hs) in
+    let unfinished = c .before .before .before .before .before .before .is-incomplete-terminal-codon .ensures ∙ ap (λ (n : ℕ). incompleteAt n (b .args .offset)) (sym (total-of b t hs)) in
+    let held = c .before .before .before .before .before .holds-selenocysteine .ensures t (ap (λ (x : IndexScalars). x .«selenocysteine_count») hs) hu in
+    let columns = c .before .before .before .read-codon .ensures t start padded unfinished held ∙ ap (λ (n : ℕ). readCodon standardTable t (b .args .offset) (b .args .number) bases (buildAltCodon bases (b .args .position) n) (b .args .position)) (c .before .before .before .before .coding-byte .ensures) in
+    ap Called.Answered 
+    (c .exon-result .ensures t p he (hd ∙ sym (c .before .before .cdna-position .ensures))
+    ∙ ap (λ (n : ℕ). exonResult t p (b .args .place) (b .args .i) (columnsOf (c .before .before .before .read-codon .result)) n) (c .before .with-mark .ensures)
+    ∙ ap (codonResult t p (b .args .place) (Region.Coding (b .args .i) (b .args .offset) (b .args .number) (b .args .position) (b .args .mark))) columns)
+    ∙ ap (called b t p) (sym (d .given .1) ∙ c .before .before .before .before .before .before .before .before .before .before .before .before .fetch-ref-codon .ensures t (pad-of b t hs) hg (total-of b t hs))
 
 pub annotate-cds-snv-spec : {M : Type 1} → statement M
 annotate-cds-snv-spec =
@@ -95,5 +102,6 @@ annotate-cds-snv-spec =
     coding-byte-requires
     read-codon-requires
     cdna-position-requires
+    with-mark-requires
     exon-result-requires
     returns-2)

@@ -6,6 +6,7 @@ use Prim.Native.Nat.{ℕ}
 use native.Mathlib.Omega.{arith}
 use denote.Ref.{now}
 use Rattle.common.specs.Lists.{any}
+use Rattle.footprint.specs.Ranges.{sourceRanges}
 use Rattle.transcript.specs.declared.TranscriptModel.{TranscriptModel}
 use Rattle.transcript.specs.Transcript.{Transcript, lent}
 use Rattle.transcript.specs.Orient.{Interval}
@@ -55,13 +56,16 @@ returns c =
     let a = c .before .before .before .admit in
     let l = refused-some (transcript b) (a .result) (a .ensures) _ (c .before .enum-told2 .given .1) in
     let e = c .refusal-number .ensures ∙ number-is (transcript b) (a .result) (a .ensures) in
-    not-admitted (transcript b) (window b) (b .args .call) (c .refusal-number .result) (omega arith) e
+    not-admitted sourceRanges (transcript b) (window b) (b .args .call) (c .refusal-number .result) (omega arith) e
 
 has-frameshift-intron-requires : tie.Need-has-frameshift-intron-requires
 has-frameshift-intron-requires c κs = let k = on (c .before .before .before .before .before .before .before .before .before .before .before) ad (admitted c) in (k .even, k .edges)
 
 sum-up-requires : tie.Need-sum-up-requires
 sum-up-requires c κs = ((refl, refl), admitted (c .before .before .before))
+
+source-ranges-requires : tie.Need-source-ranges-requires
+source-ranges-requires c κs = search needs
 
 slice-aggregate-annotate-summed : tie.Need-slice-aggregate-annotate-summed
 slice-aggregate-annotate-summed c = search needs
@@ -71,18 +75,18 @@ slice-aggregate-annotate-summed-2 c = search needs
 
 annotate-summed-requires : tie.Need-annotate-summed-requires
 annotate-summed-requires c κs =
-    let b = c .before .before .before .before .before .before .before .before .before .before .before .before .before .before .before .before .before in
-    let a = admitted (c .before .before .before .before .before .before) in
-    let s = c .before .before .sum-up in
+    let b = c .before .before .before .before .before .before .before .before .before .before .before .before .before .before .before .before .before .before in
+    let a = admitted (c .before .before .before .before .before .before .before) in
+    let s = c .before .before .before .sum-up in
     record {
       admitted = a;
       exons-are = on b exons-summed a (s .last .0) (s .ensures .0 .0);
       segments-are = on b cds-summed a (s .last .1 .0) (s .ensures .0 .1);
-      short-is = c .before .before .before .before .before .has-frameshift-intron .ensures ∙ ap (λ (xs : List Interval). any isFrameshiftGap (gaps xs)) (sym (on b exons-are a));
+      short-is = c .before .before .before .before .before .before .has-frameshift-intron .ensures ∙ ap (λ (xs : List Interval). any isFrameshiftGap (gaps xs)) (sym (on b exons-are a));
     }
 
 returns-2 : tie.Need-returns-2
-returns-2 c = search needs
+returns-2 c = rw (c .before .before .before .source-ranges .ensures) at (c .annotate-summed .ensures)
 
 pub annotate-snv-spec : {M : Type 1} → statement M
 annotate-snv-spec =
@@ -95,6 +99,7 @@ annotate-snv-spec =
     returns
     has-frameshift-intron-requires
     sum-up-requires
+    source-ranges-requires
     slice-aggregate-annotate-summed
     slice-aggregate-annotate-summed-2
     annotate-summed-requires
