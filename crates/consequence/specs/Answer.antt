@@ -14,6 +14,7 @@ use Rattle.locate.specs.Place.{cdnaPosition}
 use Rattle.consequence.specs.declared.FetchedCodon.{FetchedCodon}
 use Rattle.consequence.specs.declared.Numbered.{Numbered}
 use Rattle.consequence.specs.declared.Counted.{Counted}
+use Rattle.consequence.specs.declared.CdnaCounted.{CdnaCounted}
 use Rattle.consequence.specs.declared.columns.CodonColumns.{CodonColumns}
 use Rattle.consequence.specs.declared.ConsequenceResult.{ConsequenceResult}
 use Rattle.consequence.specs.declared.region.Region.{Region}
@@ -24,6 +25,11 @@ use Rattle.terms.specs.Coding.{codingTerm}
 use Rattle.consequence.specs.Region.{regionOf, regionTerms}
 use Rattle.consequence.specs.Coding.{isStartCodon, showsCodon, shownLetters}
 
+-- a cDNA position as a plain number
+abbrev pub cdnaCount : CdnaCounted → Counted
+cdnaCount CdnaCounted.Absent = Counted.Absent
+cdnaCount (CdnaCounted.At p) = Counted.At (p .0)
+
 -- outside the transcript only the place and the term are given
 abbrev pub flankResult : VariantLocation → ℕ → ConsequenceResult
 flankResult place terms = record {
@@ -31,7 +37,7 @@ flankResult place terms = record {
   exon = Numbered.Absent;
   intron = Numbered.Absent;
   «cds_position» = Counted.Absent;
-  «cdna_position» = Counted.Absent;
+  «cdna_position» = CdnaCounted.Absent;
   «protein_start» = Counted.Absent;
   codons = Codons.Absent;
   «amino_acids» = AminoAcids.Absent;
@@ -45,7 +51,7 @@ intronResult t place i terms = record {
   exon = Numbered.Absent;
   intron = Numbered.Of (i + 1) (length (t .exons) - 1);
   «cds_position» = Counted.Absent;
-  «cdna_position» = Counted.Absent;
+  «cdna_position» = CdnaCounted.Absent;
   «protein_start» = Counted.Absent;
   codons = Codons.Absent;
   «amino_acids» = AminoAcids.Absent;
@@ -75,7 +81,7 @@ exonResult t p place i c terms = record {
   exon = Numbered.Of (i + 1) (length (t .exons));
   intron = Numbered.Absent;
   «cds_position» = c .position;
-  «cdna_position» = Counted.At (cdnaPosition t p);
+  «cdna_position» = CdnaCounted.At (record { 0 = cdnaPosition t p });
   «protein_start» = c .number;
   codons = c .codons;
   «amino_acids» = c .letters;

@@ -1,4 +1,5 @@
 // The answer for a base at a place.
+use super::CdnaCounted;
 use super::ConsequenceResult;
 use super::Counted;
 use super::Numbered;
@@ -27,7 +28,7 @@ pub(crate) fn flank_result(place: VariantLocation, terms: TermSet) -> Consequenc
         exon: Numbered::Absent,
         intron: Numbered::Absent,
         cds_position: Counted::Absent,
-        cdna_position: Counted::Absent,
+        cdna_position: CdnaCounted::Absent,
         protein_start: Counted::Absent,
         codons: Codons::Absent,
         amino_acids: AminoAcids::Absent,
@@ -55,7 +56,7 @@ pub(crate) fn intron_result(
             total: exons - 1,
         },
         cds_position: Counted::Absent,
-        cdna_position: Counted::Absent,
+        cdna_position: CdnaCounted::Absent,
         protein_start: Counted::Absent,
         codons: Codons::Absent,
         amino_acids: AminoAcids::Absent,
@@ -116,7 +117,7 @@ pub(crate) fn exon_result(
         },
         intron: Numbered::Absent,
         cds_position,
-        cdna_position: Counted::At(cdna.0),
+        cdna_position: CdnaCounted::At(cdna),
         protein_start,
         codons,
         amino_acids,

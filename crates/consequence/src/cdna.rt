@@ -1,8 +1,11 @@
 // The cDNA position of an exon base.
+use super::CdnaCounted;
+use super::Counted;
 use locate::CdnaPosition;
 use transcript::Strand;
 use transcript::oriented::start_of;
 ghost use mathlib.Core.Path.{_≡_};
+ghost use Rattle.consequence.specs.Answer.{cdnaCount};
 ghost use Prim.Native.Nat.{_+_, _≤_, _<_};
 ghost use lib.ListN.{length, getD};
 ghost use Rattle.transcript.specs.Orient.{interval};
@@ -30,4 +33,14 @@ pub(crate) fn compute_cdna_position_exonic(
     let e = ends[i];
     let d = p - start_of(strand, s, e);
     CdnaPosition(sums[i] + d as u32 + 1)
+}
+
+// The position as a plain number, for the columns of a line.
+pub fn cdna_count(n: CdnaCounted) -> Counted
+    ensures { λ r. ⌜ r ≡ cdnaCount n ⌝ }
+{
+    match n {
+        CdnaCounted::Absent => Counted::Absent,
+        CdnaCounted::At(p) => Counted::At(p.0),
+    }
 }

@@ -81,7 +81,7 @@ pub(crate) fn annotate_cds_snv(
         is_padded_codon(scalars.cds_start_pad, number),
         is_incomplete_terminal_codon(scalars.total_cds_length, offset),
         holds_selenocysteine(codons, scalars.selenocysteine_count, number),
-        offset,
+        CdsOffset(offset),
         number,
         c,
         position,

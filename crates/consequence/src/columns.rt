@@ -8,6 +8,7 @@ use codon::Codons;
 use codon::build_alt_codon;
 use codon::translate_altered_codon;
 use codon::translate_reference_codon;
+use locate::CdsOffset;
 use terms::Consequence;
 use terms::TermSet;
 use terms::coding_term;
@@ -43,14 +44,15 @@ pub(crate) fn no_codon() -> CodonColumns
 }
 
 // An unfinished last codon: its own bases as codons, letter X.
-fn incomplete_codon(offset: u32, number: u32, c: Codon, altered: Codon, k: u8) -> CodonColumns
-    requires { ⌜ offset ≤ 2 + top ⌝ }
-    ensures { λ r. ⌜ columnsOf r ≡ incompleteCodon offset number c altered k ⌝ }
+fn incomplete_codon(offset: CdsOffset, number: u32, c: Codon, altered: Codon, k: u8) -> CodonColumns
+    requires { ⌜ offset .0 ≤ 2 + top ⌝ }
+    ensures { λ r. ⌜ columnsOf r ≡ incompleteCodon (offset .0) number c altered k ⌝ }
 {
+    let n = offset.0;
     let first = TermSet::of(Consequence::IncompleteTerminalCodonVariant);
     let terms = first.with(Consequence::CodingSequenceVariant);
     CodonColumns {
-        position: Counted::At(offset + 1),
+        position: Counted::At(n + 1),
         number: Counted::At(number),
         codons: Codons::Change {
             reference: c,
@@ -66,7 +68,7 @@ fn incomplete_codon(offset: u32, number: u32, c: Codon, altered: Codon, k: u8) -
 fn whole_codon(
     start: bool,
     padded: bool,
-    offset: u32,
+    offset: CdsOffset,
     number: u32,
     c: Codon,
     altered: Codon,
@@ -74,17 +76,18 @@ fn whole_codon(
     reference_letter: u8,
     altered_letter: u8,
 ) -> CodonColumns
-    requires { ⌜ offset ≤ 2 + top ⌝ }
+    requires { ⌜ offset .0 ≤ 2 + top ⌝ }
     ensures { λ r. ⌜ ((t : Oriented)
         → start ≡ isStartCodon t number
         → padded ≡ isPaddedCodon t number
-        → columnsOf r ≡ wholeCodon t offset number c altered k «reference_letter» «altered_letter») ⌝ }
+        → columnsOf r ≡ wholeCodon t (offset .0) number c altered k «reference_letter» «altered_letter») ⌝ }
 {
+    let n = offset.0;
     let letters = shown_letters(padded, reference_letter, altered_letter);
     let terms = TermSet::of(coding_term(start, reference_letter, altered_letter));
     if shows_codon(padded, reference_letter) {
         return CodonColumns {
-            position: Counted::At(offset + 1),
+            position: Counted::At(n + 1),
             number: Counted::At(number),
             codons: Codons::Change {
                 reference: c,
@@ -96,7 +99,7 @@ fn whole_codon(
         };
     }
     CodonColumns {
-        position: Counted::At(offset + 1),
+        position: Counted::At(n + 1),
         number: Counted::Absent,
         codons: Codons::Absent,
         letters,
@@ -110,19 +113,19 @@ pub(crate) fn read_codon(
     padded: bool,
     incomplete: bool,
     selenocysteine: bool,
-    offset: u32,
+    offset: CdsOffset,
     number: u32,
     c: Codon,
     k: u8,
     b: u8,
 ) -> CodonColumns
-    requires { ⌜ offset ≤ 2 + top ⌝ }
+    requires { ⌜ offset .0 ≤ 2 + top ⌝ }
     ensures { λ r. ⌜ ((t : Oriented)
         → start ≡ isStartCodon t number
         → padded ≡ isPaddedCodon t number
-        → incomplete ≡ isIncompleteTerminalCodon t offset
+        → incomplete ≡ isIncompleteTerminalCodon t (offset .0)
         → selenocysteine ≡ holdsSelenocysteine t number
-        → columnsOf r ≡ readCodon standardTable t offset number c (buildAltCodon c k b) k) ⌝ }
+        → columnsOf r ≡ readCodon standardTable t (offset .0) number c (buildAltCodon c k b) k) ⌝ }
 {
     let altered = build_alt_codon(c, k, b);
     if incomplete {

@@ -17,9 +17,11 @@ mod summed;
 mod window;
 
 pub use admitted::annotate_admitted;
+pub use cdna::cdna_count;
 use codon::AminoAcids;
 use codon::Codon;
 use codon::Codons;
+use locate::CdnaPosition;
 use locate::VariantLocation;
 pub use snv::annotate_snv;
 pub use summed::annotate_summed;
@@ -55,13 +57,19 @@ pub enum Counted {
     At(u32),
 }
 
+// A cDNA position: no padded offset can stand here.
+pub enum CdnaCounted {
+    Absent,
+    At(CdnaPosition),
+}
+
 // The whole answer to a call.
 pub struct ConsequenceResult {
     pub location: VariantLocation,
     pub exon: Numbered,
     pub intron: Numbered,
     pub cds_position: Counted,
-    pub cdna_position: Counted,
+    pub cdna_position: CdnaCounted,
     pub protein_start: Counted,
     pub codons: Codons,
     pub amino_acids: AminoAcids,

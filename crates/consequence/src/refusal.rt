@@ -2,6 +2,7 @@
 use super::Call;
 use super::FetchedBase;
 use super::window::base_at;
+use transcript::question::QUERY_LIMIT;
 ghost use mathlib.Core.Path.{_≡_};
 ghost use mathlib.Core.Bool.{not, _||_};
 ghost use lib.Dec.{eqb};
@@ -10,9 +11,6 @@ ghost use Rattle.transcript.specs.Transcript.{Transcript};
 ghost use Rattle.transcript.specs.Admission.{admission};
 ghost use Rattle.consequence.specs.Window.{windowFrom, windowWasGiven};
 ghost use Rattle.consequence.specs.Call.{badAlt, windowRefusal, openingRefusal};
-
-// The largest start or end of a query.
-const QUERY_LIMIT: u64 = 1_000_010_000;
 
 // Whether the byte is A, C, G or T.
 fn is_base(b: u8) -> bool

@@ -9,11 +9,14 @@ ghost use lib.Dec.{eqb};
 ghost use Rattle.common.specs.Little.{at1};
 ghost use Rattle.deck.specs.Records.{kindOf, markOf, half, word, unusedNotZero, badRecord, lowest};
 
+// The bytes of a record.
+pub(crate) const RECORD_SIZE: usize = 16;
+
 pub(crate) fn kind_of(d: &[u8], i: usize) -> u8
     requires { ⌜ 16 * i + 16 ≤ length (now d) ⌝ }
     ensures { λ r. ⌜ r ≡ kindOf (now d.entry) i ⌝ }
 {
-    let at = 16 * i;
+    let at = RECORD_SIZE * i;
     d[at]
 }
 
@@ -22,7 +25,7 @@ pub(crate) fn byte_of(d: &[u8], i: usize, k: usize) -> u8
     requires { ⌜ (16 * i + 16 ≤ length (now d)) × (k ≤ 15) ⌝ }
     ensures { λ r. ⌜ r ≡ at1 (now d.entry) (16 * i + k) ⌝ }
 {
-    let at = 16 * i + k;
+    let at = RECORD_SIZE * i + k;
     d[at]
 }
 
@@ -30,7 +33,7 @@ pub(crate) fn mark_of(d: &[u8], i: usize) -> u8
     requires { ⌜ 16 * i + 16 ≤ length (now d) ⌝ }
     ensures { λ r. ⌜ r ≡ markOf (now d.entry) i ⌝ }
 {
-    let at = 16 * i + 1;
+    let at = RECORD_SIZE * i + 1;
     d[at]
 }
 
@@ -39,7 +42,7 @@ pub(crate) fn half_of(d: &[u8], i: usize, k: usize) -> u16
     requires { ⌜ (16 * i + 16 ≤ length (now d)) × (k ≤ 14) ⌝ }
     ensures { λ r. ⌜ r ≡ half (now d.entry) i k ⌝ }
 {
-    u16_at(d, 16 * i + k)
+    u16_at(d, RECORD_SIZE * i + k)
 }
 
 // The four-byte number at byte k of record i.
@@ -47,7 +50,7 @@ pub(crate) fn word_of(d: &[u8], i: usize, k: usize) -> u32
     requires { ⌜ (16 * i + 16 ≤ length (now d)) × (k ≤ 12) ⌝ }
     ensures { λ r. ⌜ r ≡ word (now d.entry) i k ⌝ }
 {
-    u32_at(d, 16 * i + k)
+    u32_at(d, RECORD_SIZE * i + k)
 }
 
 fn either(a: bool, b: bool) -> bool

@@ -4,6 +4,7 @@ use crate::links::exon_link;
 use crate::links::link_of;
 use crate::links::next_link;
 use crate::record::kind_of;
+use super::record::RECORD_SIZE;
 ghost use Prim.Native.Nat.{_≤_};
 ghost use mathlib.Core.Path.{_≡_};
 ghost use mathlib.Core.Bool.{_||_, not};
@@ -25,7 +26,7 @@ fn bad_link(d: &[u8], kind: u8, to: usize, reached: &[u8; 4096]) -> bool
         let deck = now d.entry in
         ⌜ r ≡ (leb (recordCount deck) to || not (eqb (kindOf deck to) kind) || eqb (getD (now reached.entry) to 0) 1) ⌝ }
 {
-    if d.len() / 16 <= to {
+    if d.len() / RECORD_SIZE <= to {
         return true;
     }
     if kind_of(d, to) != kind {
@@ -92,7 +93,7 @@ pub(crate) fn walk(d: &[u8], order: &mut [u16; 4096]) -> Walked
     if broken {
         return Walked::Bad(bad);
     }
-    let count = d.len() / 16;
+    let count = d.len() / RECORD_SIZE;
     let low = first_unreached(&reached, count);
     if low < count {
         return Walked::Bad(low);

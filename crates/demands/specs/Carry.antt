@@ -5,7 +5,7 @@ use Rattle.locate.specs.declared.VariantLocation.{VariantLocation}
 use Rattle.locate.specs.declared.VariantLocation.the-variants.{Upstream, Downstream, Distal, FivePrimeUtr, CdsExon, ThreePrimeUtr, SpliceDonor, SpliceAcceptor, SpliceRegion, Intron, FrameshiftIntron, NonCodingExon, NonCodingIntron}
 use Rattle.locate.specs.declared.Located.{Located}
 use Rattle.consequence.specs.declared.Numbered.{Numbered}
-use Rattle.consequence.specs.declared.Counted.{Counted}
+use Rattle.consequence.specs.declared.CdnaCounted.{CdnaCounted}
 use Rattle.consequence.specs.declared.ConsequenceResult.{ConsequenceResult}
 use Rattle.consequence.specs.declared.Called.{Called}
 use Rattle.terms.specs.declared.Consequence.the-variants.{SpliceAcceptorVariant, SpliceDonorVariant, SpliceRegionVariant}
@@ -40,9 +40,9 @@ carryNumber x Numbered.Absent = Numbered.Absent
 carryNumber x (Numbered.Of k n) = Numbered.Of (k + x .exons5) (n + x .exons)
 
 -- a cDNA position moves by the exonic bases added 5'
-abbrev pub carryCdna : Added → Counted → Counted
-carryCdna x Counted.Absent = Counted.Absent
-carryCdna x (Counted.At k) = Counted.At (k + x .bases5)
+abbrev pub carryCdna : Added → CdnaCounted → CdnaCounted
+carryCdna x CdnaCounted.Absent = CdnaCounted.Absent
+carryCdna x (CdnaCounted.At k) = CdnaCounted.At (record { 0 = k .0 + x .bases5 })
 
 abbrev pub isNumbered : Numbered → Bool
 isNumbered Numbered.Absent = false

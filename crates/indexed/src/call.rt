@@ -9,12 +9,12 @@ use deck::part::segment_part;
 use deck::part::segment_phases;
 use deck::rows::Rows;
 use deck::rows::model_in;
+use footprint::source_ranges;
 ghost use mathlib.Core.Path.{_≡_};
 ghost use Prim.Native.Nat.{_<_};
 ghost use lib.ListN.{getD, drop};
-ghost use Rattle.footprint.specs.Ranges.{sourceRanges};
 ghost use Rattle.consequence.specs.Window.{windowWasGiven};
-ghost use Rattle.consequence.specs.Call.{annotateSnv};
+ghost use Rattle.listing.specs.Listing.{listedCall};
 ghost use Rattle.consequence.specs.Prepared.{Summed};
 ghost use Rattle.deck.specs.Table.{InOrder, transcriptIn};
 ghost use Rattle.indexed.specs.TableIndex.{cdsRow};
@@ -90,9 +90,10 @@ pub(crate) fn call_indexed(
     ensures { λ r.
         let t = transcriptIn (now marks.entry) (now ids.entry) (now numbers.entry) (now starts.entry) (now ends.entry) k rows in
         let w = windowWasGiven «window_chromosome» «window_first» window in
-        ⌜ r ≡ annotateSnv sourceRanges t w call ⌝ }
+        ⌜ r ≡ listedCall t w call ⌝ }
 {
     annotate_summed(
+        source_ranges(),
         window_chromosome,
         window_first,
         window,

@@ -7,6 +7,7 @@ use lib.IntN.{ℤ}
 use Rattle.common.specs.Lists.{concat}
 use Rattle.transcript.specs.Transcript.{Transcript}
 use Rattle.transcript.specs.Admission.{admission}
+use Rattle.footprint.specs.declared.Ranges.{Ranges}
 use Rattle.footprint.specs.Ranges.{sourceRanges}
 use Rattle.consequence.specs.declared.Call.{Call}
 use Rattle.consequence.specs.Window.{Window}
@@ -20,12 +21,12 @@ abbrev pub callOf : ℕ → ℕ → ℕ → ℕ → Call
 callOf chromosome position ref alt = record { chromosome = chromosome; position = position; «ref_base» = ref; «alt_base» = alt }
 
 -- the answer to a call in 20 numbers
-abbrev pub callWords : Transcript → Window → Call → List ℤ
-callWords t w q = calledWords (annotateSnv sourceRanges t w q)
+abbrev pub callWords : Ranges → Transcript → Window → Call → List ℤ
+callWords r t w q = calledWords (annotateSnv r t w q)
 
 abbrev pub CallAnswered : Transcript → Window → Call → List ℤ → List ℤ → ℕ → Type 0
 CallAnswered t w q before after number =
-    Answered (eqb (length before) 20) (calledNumber (annotateSnv sourceRanges t w q)) (callWords t w q) before after number
+    Answered (eqb (length before) 20) (calledNumber (annotateSnv sourceRanges t w q)) (callWords sourceRanges t w q) before after number
 
 -- calls lent as four lists; the shortest list decides
 unfoldable pub callsOf : List ℕ → List ℕ → List ℕ → List ℕ → List Call
@@ -36,10 +37,10 @@ callsOf (c ∷ cs) (p ∷ ps) (r ∷ rs) [] = []
 callsOf (c ∷ cs) (p ∷ ps) (r ∷ rs) (a ∷ ls) = callOf c p r a ∷ callsOf cs ps rs ls
 
 -- the answers to calls, 20 numbers each
-abbrev pub callsWords : Transcript → Window → List Call → List ℤ
-callsWords t w calls = concat (map (callWords t w) calls)
+abbrev pub callsWords : Ranges → Transcript → Window → List Call → List ℤ
+callsWords r t w calls = concat (map (callWords r t w) calls)
 
 -- only the transcript can be refused as a whole
 abbrev pub CallsAnswered : Transcript → Window → List ℕ → List ℕ → List ℕ → List ℕ → List ℤ → List ℤ → ℕ → Type 0
 CallsAnswered t w cs ps rs ls before after number =
-    Answered (callsFit cs ps rs ls before) (admission t) (callsWords t w (callsOf cs ps rs ls)) before after number
+    Answered (callsFit cs ps rs ls before) (admission t) (callsWords sourceRanges t w (callsOf cs ps rs ls)) before after number

@@ -7,20 +7,21 @@ use lib.IntN.{ℤ}
 use Rattle.common.specs.Lists.{concat}
 use Rattle.transcript.specs.Transcript.{Transcript}
 use Rattle.transcript.specs.Admission.{admission}
+use Rattle.footprint.specs.declared.Ranges.{Ranges}
 use Rattle.footprint.specs.Ranges.{sourceRanges}
 use Rattle.locate.specs.Query.{locatePosition}
 use Rattle.words.specs.Words.{locatedWords}
 use Rattle.interface.specs.Left.{Answered}
 
 -- the place of a position as 8 numbers
-abbrev pub positionWords : Transcript → ℕ → ℕ → List ℤ
-positionWords t chromosome p = locatedWords (locatePosition sourceRanges t chromosome p)
+abbrev pub positionWords : Ranges → Transcript → ℕ → ℕ → List ℤ
+positionWords r t chromosome p = locatedWords (locatePosition r t chromosome p)
 
 -- the places of positions, 8 numbers each
-abbrev pub placesWords : Transcript → ℕ → List ℕ → List ℤ
-placesWords t chromosome positions = concat (map (positionWords t chromosome) positions)
+abbrev pub placesWords : Ranges → Transcript → ℕ → List ℕ → List ℤ
+placesWords r t chromosome positions = concat (map (positionWords r t chromosome) positions)
 
 -- only the transcript can be refused as a whole
 abbrev pub PlacesAnswered : Transcript → ℕ → List ℕ → List ℤ → List ℤ → ℕ → Type 0
 PlacesAnswered t chromosome positions before after number =
-    Answered (eqb (length before) (8 * length positions)) (admission t) (placesWords t chromosome positions) before after number
+    Answered (eqb (length before) (8 * length positions)) (admission t) (placesWords sourceRanges t chromosome positions) before after number

@@ -3,6 +3,7 @@ use consequence::Call;
 use consequence::Called;
 use consequence::annotate_snv;
 use transcript::TranscriptModel;
+use words::CALL_WORDS;
 use words::put_called;
 ghost use Rattle.transcript.specs.Transcript.{wasGiven};
 ghost use Rattle.consequence.specs.Window.{windowWasGiven};
@@ -29,7 +30,7 @@ pub(crate) fn answer_call(
         let w = windowWasGiven «window_chromosome» «window_first» window in
         ⌜ CallAnswered t w call (now out.entry) (now out.exit) r ⌝ }
 {
-    if out.len() != 20 {
+    if out.len() != CALL_WORDS {
         return 1;
     }
     let called = annotate_snv(

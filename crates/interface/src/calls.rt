@@ -1,12 +1,15 @@
 // The answers to many calls on one transcript.
 use consequence::Call;
 use consequence::annotate_admitted;
+use footprint::Ranges;
+use footprint::source_ranges;
 use locate::IndexScalars;
 use locate::index_of;
 use transcript::Admission;
 use transcript::TranscriptModel;
 use transcript::admit;
 use transcript::question::refusal_number;
+use words::CALL_WORDS;
 use words::calls_fit;
 use words::put_called;
 ghost use mathlib.Core.Path.{_≡_};
@@ -19,6 +22,7 @@ ghost use Rattle.interface.specs.Calls.{callsOf, callsWords, CallsAnswer
 
 // The answers one behind the other.
 fn put_calls(
+    ranges: Ranges,
     window_chromosome: u16,
     window_first: u64,
     window: &[u8],
@@ -42,12 +46,13 @@ fn put_calls(
 )
     requires { let t = given model «exon_starts» «exon_ends» «seg_phases» «seg_exons» «seg_starts» «seg_ends» selenocysteine in
         ⌜ Prepared t scalars (now «cumulative_exons») (now «cumulative_cds») (now «selenocysteine_codons») ⌝
+        ∗ ⌜ ranges .flank < 2 ^ 63 ⌝
         ∗ ⌜ callsFit (now chromosomes) (now positions) (now refs) (now alts) (now out) ≡ true ⌝ }
     ensures { λ _.
         let t = wasGiven model «exon_starts» «exon_ends» «seg_phases» «seg_exons» «seg_starts» «seg_ends» selenocysteine in
         let w = windowWasGiven «window_chromosome» «window_first» window in
         let calls = callsOf (now chromosomes.entry) (now positions.entry) (now refs.entry) (now alts.entry) in
-        ⌜ now out.exit ≡ callsWords t w calls ⌝ }
+        ⌜ now out.exit ≡ callsWords ranges t w calls ⌝ }
 {
     let mut i = 0;
     while i < positions.len() {
@@ -58,6 +63,7 @@ fn put_calls(
             alt_base: alts[i],
         };
         let called = annotate_admitted(
+            ranges,
             window_chromosome,
             window_first,
             window,
@@ -75,7 +81,7 @@ fn put_calls(
             cumulative_cds,
             selenocysteine_codons,
         );
-        put_called(out, 20 * i, called);
+        put_called(out, CALL_WORDS * i, called);
         i += 1;
     }
 }
@@ -134,7 +140,9 @@ pub(crate) fn answer_calls(
     let cumulative_exons = index.cumulative_exons;
     let cumulative_cds = index.cumulative_cds;
     let selenocysteine_codons = index.selenocysteine_codons;
+    let ranges = source_ranges();
     put_calls(
+        ranges,
         window_chromosome,
         window_first,
         window,

@@ -5,6 +5,7 @@ use footprint::classify_flank;
 use footprint::exonic_splice_spill;
 use footprint::frameshift_intron_endpoint;
 use transcript::TranscriptModel;
+use words::INTERVAL_WORDS;
 use words::model_of;
 use words::put_interval;
 ghost use Rattle.transcript.specs.Transcript.{wasGiven};
@@ -30,7 +31,7 @@ fn answer_interval(
         let t = wasGiven model «exon_starts» «exon_ends» «seg_phases» «seg_exons» «seg_starts» «seg_ends» selenocysteine in
         ⌜ IntervalAnswered t chromosome start end (now out.entry) (now out.exit) r ⌝ }
 {
-    if out.len() != 7 {
+    if out.len() != INTERVAL_WORDS {
         return 1;
     }
     let flanked = classify_flank(

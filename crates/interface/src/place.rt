@@ -2,6 +2,7 @@
 use locate::Located;
 use locate::locate_variant;
 use transcript::TranscriptModel;
+use words::PLACE_WORDS;
 use words::put_located;
 ghost use Rattle.transcript.specs.Transcript.{wasGiven};
 ghost use Rattle.interface.specs.Left.{PlaceAnswered};
@@ -25,7 +26,7 @@ pub(crate) fn answer_place(
         let t = wasGiven model «exon_starts» «exon_ends» «seg_phases» «seg_exons» «seg_starts» «seg_ends» selenocysteine in
         ⌜ PlaceAnswered t chromosome start end (now out.entry) (now out.exit) r ⌝ }
 {
-    if out.len() != 8 {
+    if out.len() != PLACE_WORDS {
         return 1;
     }
     let located = locate_variant(

@@ -1,11 +1,14 @@
 // The places of many bases of one transcript.
 use crate::position::locate_position;
+use footprint::Ranges;
+use footprint::source_ranges;
 use locate::IndexScalars;
 use locate::index_of;
 use transcript::Admission;
 use transcript::TranscriptModel;
 use transcript::admit;
 use transcript::question::refusal_number;
+use words::PLACE_WORDS;
 use words::put_located;
 ghost use mathlib.Core.Path.{_≡_};
 ghost use lib.ListN.{length};
@@ -16,6 +19,7 @@ ghost use Rattle.interface.specs.Lists.{placesWords, PlacesAnswered};
 
 // The places of the positions, one behind the other.
 fn put_places(
+    ranges: Ranges,
     chromosome: u16,
     positions: &[u64],
     model: TranscriptModel,
@@ -32,15 +36,17 @@ fn put_places(
 )
     requires { let t = given model «exon_starts» «exon_ends» «seg_phases» «seg_exons» «seg_starts» «seg_ends» selenocysteine in
         ⌜ Ready t scalars (now «cumulative_exons») ⌝
+        ∗ ⌜ ranges .flank < 2 ^ 63 ⌝
         ∗ ⌜ length (now out) ≡ 8 * length (now positions) ⌝ }
     ensures { λ _.
         let t = wasGiven model «exon_starts» «exon_ends» «seg_phases» «seg_exons» «seg_starts» «seg_ends» selenocysteine in
-        ⌜ now out.exit ≡ placesWords t chromosome (now positions.entry) ⌝ }
+        ⌜ now out.exit ≡ placesWords ranges t chromosome (now positions.entry) ⌝ }
 {
     let mut i = 0;
     while i < positions.len() {
         let p = positions[i];
         let located = locate_position(
+            ranges,
             chromosome,
             p,
             model,
@@ -54,7 +60,7 @@ fn put_places(
             scalars,
             cumulative_exons,
         );
-        put_located(out, 8 * i, located);
+        put_located(out, PLACE_WORDS * i, located);
         i += 1;
     }
 }
@@ -77,10 +83,10 @@ pub(crate) fn answer_places(
         let t = wasGiven model «exon_starts» «exon_ends» «seg_phases» «seg_exons» «seg_starts» «seg_ends» selenocysteine in
         ⌜ PlacesAnswered t chromosome (now positions.entry) (now out.entry) (now out.exit) r ⌝ }
 {
-    if out.len() % 8 != 0 {
+    if out.len() % PLACE_WORDS != 0 {
         return 1;
     }
-    if out.len() / 8 != positions.len() {
+    if out.len() / PLACE_WORDS != positions.len() {
         return 1;
     }
     let admitted = admit(
@@ -108,7 +114,9 @@ pub(crate) fn answer_places(
     );
     let scalars = index.scalars;
     let cumulative_exons = index.cumulative_exons;
+    let ranges = source_ranges();
     put_places(
+        ranges,
         chromosome,
         positions,
         model,

@@ -1,20 +1,19 @@
 // The place of a lone position in an admitted transcript.
+use footprint::Ranges;
 use locate::IndexScalars;
 use locate::Located;
 use locate::place::place_of_base;
 use transcript::TranscriptModel;
+use transcript::question::QUERY_LIMIT;
 use transcript::question::base_of;
 ghost use mathlib.Core.Path.{_≡_};
 ghost use Rattle.transcript.specs.Transcript.{given, wasGiven};
-ghost use Rattle.footprint.specs.Ranges.{sourceRanges};
 ghost use Rattle.locate.specs.Query.{locatePosition};
 ghost use Rattle.interface.specs.Ready.{Ready};
 
-// The largest start or end of a query.
-const QUERY_LIMIT: u64 = 1_000_010_000;
-
 // The place of [p, p + 1), or the number of the refusal.
 pub(crate) fn locate_position(
+    ranges: Ranges,
     chromosome: u16,
     p: u64,
     model: TranscriptModel,
@@ -32,7 +31,7 @@ pub(crate) fn locate_position(
         ⌜ Ready t scalars (now «cumulative_exons») ⌝ }
     ensures { λ r.
         let t = wasGiven model «exon_starts» «exon_ends» «seg_phases» «seg_exons» «seg_starts» «seg_ends» selenocysteine in
-        ⌜ r ≡ locatePosition sourceRanges t chromosome p ⌝ }
+        ⌜ r ≡ locatePosition ranges t chromosome p ⌝ }
 {
     if QUERY_LIMIT <= p {
         return Located::Refused(15);
@@ -43,6 +42,7 @@ pub(crate) fn locate_position(
     let strand = model.strand;
     let q = base_of(strand, p);
     let place = place_of_base(
+        ranges,
         model,
         exon_starts,
         exon_ends,

@@ -9,6 +9,7 @@ use Rattle.codon.specs.Display.{formatCodons, formatAminoAcids}
 use Rattle.locate.specs.PlaceKind.{placeNames, placeName}
 use Rattle.consequence.specs.declared.Numbered.{Numbered}
 use Rattle.consequence.specs.declared.Counted.{Counted}
+use Rattle.consequence.specs.Answer.{cdnaCount}
 use Rattle.consequence.specs.declared.ConsequenceResult.{ConsequenceResult}
 use Rattle.consequence.specs.declared.Called.{Called}
 use Rattle.names.specs.Names.{termName}
@@ -61,7 +62,7 @@ termList s = commas (map termName (ranks s))
 unfoldable pub answerLine : ℕ → ℕ → ConsequenceResult → List ℕ
 answerLine number id a = lineOf (
     decimal number ∷ decimal id ∷ bytes "0" ∷ placeName (a .location) ∷ numbered (a .exon) ∷ numbered (a .intron)
-    ∷ counted (a .«cds_position») ∷ counted (a .«cdna_position») ∷ counted (a .«protein_start»)
+    ∷ counted (a .«cds_position») ∷ counted (cdnaCount (a .«cdna_position»)) ∷ counted (a .«protein_start»)
     ∷ formatCodons (a .codons) ∷ formatAminoAcids (a .«amino_acids») ∷ termList (a .consequences .0) ∷ [])
 
 -- the same line in three parts: up to the place, the numbers, and the rest with the newline
@@ -70,7 +71,7 @@ frontColumns number id kind = decimal number ++ (space ∷ (decimal id ++ (space
 
 unfoldable pub numberColumns : ConsequenceResult → List ℕ
 numberColumns a =
-    numbered (a .exon) ++ (space ∷ (numbered (a .intron) ++ (space ∷ (counted (a .«cds_position») ++ (space ∷ (counted (a .«cdna_position»)
+    numbered (a .exon) ++ (space ∷ (numbered (a .intron) ++ (space ∷ (counted (a .«cds_position») ++ (space ∷ (counted (cdnaCount (a .«cdna_position»))
     ++ (space ∷ (counted (a .«protein_start») ++ (space ∷ [])))))))))
 
 unfoldable pub backColumns : ConsequenceResult → List ℕ

@@ -6,6 +6,8 @@ use Rattle.common.specs.Lists.{concat}
 use Rattle.footprint.specs.Ranges.{sourceRanges}
 use Rattle.transcript.specs.Transcript.{Transcript}
 use Rattle.consequence.specs.Window.{Window}
+use Rattle.consequence.specs.declared.Call.{Call}
+use Rattle.consequence.specs.declared.Called.{Called}
 use Rattle.consequence.specs.Call.{annotateSnv}
 use Rattle.deck.specs.declared.DeckAnswer.{DeckAnswer}
 use Rattle.deck.specs.Deck.{readDeck, deckTranscripts}
@@ -15,9 +17,13 @@ use Rattle.listing.specs.declared.ParsedCall.the-variants.{Read, Malform
 use Rattle.listing.specs.Calls.{linesOf, parseCall}
 use Rattle.listing.specs.WindowFile.{badWindowFile, badCallFile, windowOf}
 
+-- the question that the lister asks, with the source's ranges
+abbrev pub listedCall : Transcript → Window → Call → Called
+listedCall t w q = annotateSnv sourceRanges t w q
+
 -- the lines of one call: one for each transcript in deck order, or 26 with id 0
 abbrev pub callLines : List Transcript → Window → ℕ → ParsedCall → List (List ℕ)
-callLines ts w number (Read q) = map (λ (t : Transcript). calledLine number (t .model .id) (annotateSnv sourceRanges t w q)) ts
+callLines ts w number (Read q) = map (λ (t : Transcript). calledLine number (t .model .id) (listedCall t w q)) ts
 callLines ts w number Malformed = refusalLine number 0 26 ∷ []
 
 -- the lines of all calls; the first has the number given

@@ -4,10 +4,9 @@ use mathlib.Core.Bool.{cond, _&&_}
 use mathlib.Core.List.{List, [], _∷_}
 use lib.ListN.{length, take, drop}
 use lib.Dec.{ltb, leb}
-use Rattle.footprint.specs.Ranges.{sourceRanges}
 use Rattle.consequence.specs.declared.Call.{Call}
 use Rattle.consequence.specs.Window.{Window}
-use Rattle.consequence.specs.Call.{annotateSnv}
+use Rattle.listing.specs.Listing.{listedCall}
 use Rattle.deck.specs.declared.DeckTable.{DeckTable}
 use Rattle.deck.specs.Records.{transcriptKind}
 use Rattle.deck.specs.Table.{isKind, rowsAt, transcriptAt}
@@ -36,7 +35,7 @@ behindTranscript kinds c behind =
 
 -- the line of one call for the transcript at a row
 unfoldable pub rowLine : DeckTable → Window → ℕ → Call → ℕ → List ℕ
-rowLine t w number q k = calledLine number (transcriptAt t k .model .id) (annotateSnv sourceRanges (transcriptAt t k) w q)
+rowLine t w number q k = calledLine number (transcriptAt t k .model .id) (listedCall (transcriptAt t k) w q)
 
 -- the line of one call for the transcript at the cursor
 unfoldable pub nextCalled : DeckTable → Window → Cursor → Cursor → Call → Next

@@ -10,9 +10,8 @@ use deck::part::segment_phases;
 use deck::rows::Rows;
 use deck::rows::model_in;
 ghost use mathlib.Core.Path.{_≡_};
-ghost use Rattle.footprint.specs.Ranges.{sourceRanges};
 ghost use Rattle.consequence.specs.Window.{windowWasGiven};
-ghost use Rattle.consequence.specs.Call.{annotateSnv};
+ghost use Rattle.listing.specs.Listing.{listedCall};
 ghost use Rattle.deck.specs.Table.{InOrder, transcriptIn};
 
 // The answer to a call on the transcript at row k.
@@ -33,7 +32,7 @@ pub(crate) fn call_at(
     ensures { λ r.
         let t = transcriptIn (now marks.entry) (now ids.entry) (now numbers.entry) (now starts.entry) (now ends.entry) k rows in
         let w = windowWasGiven «window_chromosome» «window_first» window in
-        ⌜ r ≡ annotateSnv sourceRanges t w call ⌝ }
+        ⌜ r ≡ listedCall t w call ⌝ }
 {
     annotate_snv(
         window_chromosome,

@@ -9,6 +9,7 @@ use codon::Codons;
 use consequence::ConsequenceResult;
 use consequence::Counted;
 use consequence::Numbered;
+use consequence::cdna_count;
 ghost use Prim.Native.Nat.{_≤_, _<_};
 
 // Exon or intron k of n; 0 of 0 where absent.
@@ -126,7 +127,7 @@ pub(crate) fn same_answer(b: &[u8], at: usize, a: ConsequenceResult) -> bool
         return false;
     }
     let cdna = a.cdna_position;
-    if !same_counted(b, at + 28, cdna) {
+    if !same_counted(b, at + 28, cdna_count(cdna)) {
         return false;
     }
     let protein = a.protein_start;

@@ -11,7 +11,7 @@ ghost use Rattle.transcript.specs.Numbers.{admissionNumber};
 ghost use Rattle.transcript.specs.Question.{badInterval};
 
 // The largest start or end of a query.
-const QUERY_LIMIT: u64 = 1_000_010_000;
+pub const QUERY_LIMIT: u64 = 1_000_010_000;
 
 // The refusal's number, 0 where the transcript is admitted.
 pub fn refusal_number(a: Admission) -> u8

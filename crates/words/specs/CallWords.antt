@@ -8,6 +8,7 @@ use Rattle.codon.specs.declared.Codons.{Codons}
 use Rattle.codon.specs.declared.AminoAcids.{AminoAcids}
 use Rattle.consequence.specs.declared.Numbered.{Numbered}
 use Rattle.consequence.specs.declared.Counted.{Counted}
+use Rattle.consequence.specs.Answer.{cdnaCount}
 use Rattle.consequence.specs.declared.ConsequenceResult.{ConsequenceResult}
 use Rattle.consequence.specs.declared.Called.{Called}
 use Rattle.words.specs.Words.{placeWords}
@@ -51,7 +52,7 @@ lettersWord (AminoAcids.Change x y) = 2 + 256 * x + 65536 * y
 abbrev pub columnWords : ConsequenceResult → List ℤ
 columnWords a =
     pos (numberOf (a .exon)) ∷ pos (totalOf (a .exon)) ∷ pos (numberOf (a .intron)) ∷ pos (totalOf (a .intron))
-    ∷ pos (countOf (a .«cds_position»)) ∷ pos (countOf (a .«cdna_position»)) ∷ pos (countOf (a .«protein_start»)) ∷ pos (referenceWord (a .codons))
+    ∷ pos (countOf (a .«cds_position»)) ∷ pos (countOf (cdnaCount (a .«cdna_position»))) ∷ pos (countOf (a .«protein_start»)) ∷ pos (referenceWord (a .codons))
     ∷ pos (alteredWord (a .codons)) ∷ pos (changedPlace (a .codons)) ∷ pos (lettersWord (a .«amino_acids»)) ∷ pos (a .consequences .0) ∷ []
 
 -- an answer as 20 numbers; a refusal's number has zeros behind it

@@ -1,5 +1,5 @@
 -- The flank, the short intron and the spill of an interval as 7 numbers.
-use Prim.Native.Nat.{ℕ, _≤_}
+use Prim.Native.Nat.{ℕ, _<_, _^_}
 use mathlib.Core.List.{List, [], _∷_, _++_}
 use lib.IntN.{ℤ, pos}
 use Rattle.footprint.specs.declared.Flank.{Flank}
@@ -7,7 +7,6 @@ use Rattle.footprint.specs.declared.Flank.the-variants.{Overlaps, Upstream, Dow
 use Rattle.footprint.specs.declared.Flanked.{Flanked}
 use Rattle.footprint.specs.declared.Endpoint.{Endpoint}
 use Rattle.footprint.specs.declared.Spilled.{Spilled}
-use Rattle.footprint.specs.Ranges.{sourceRanges}
 use Rattle.words.specs.Words.{flag}
 
 -- its place in the order of declaration
@@ -51,11 +50,11 @@ spillWords (Spilled.Refused n) = pos 0 ∷ pos 0 ∷ []
 abbrev pub intervalWords : Flanked → Endpoint → Spilled → List ℤ
 intervalWords f e s = pos 0 ∷ (flankWords f ++ (endpointWords e ++ spillWords s))
 
--- a flank is no longer than its range
+-- the distance of a flank fits a signed word
 abbrev pub NearFlank : Flank → Type 0
 NearFlank Overlaps = Unit
-NearFlank (Upstream d) = d ≤ sourceRanges .flank
-NearFlank (Downstream d) = d ≤ sourceRanges .flank
+NearFlank (Upstream d) = d < 2 ^ 63
+NearFlank (Downstream d) = d < 2 ^ 63
 NearFlank Far = Unit
 
 abbrev pub NearFlanked : Flanked → Type 0

@@ -1,8 +1,7 @@
 -- A place as the code hands it on.
-use Prim.Native.Nat.{_≤_}
+use Prim.Native.Nat.{_<_, _^_}
 use mathlib.Core.List.{List, [], _∷_}
 use lib.IntN.{ℤ, pos}
-use Rattle.footprint.specs.Ranges.{sourceRanges}
 use Rattle.locate.specs.declared.VariantLocation.{VariantLocation}
 use Rattle.locate.specs.declared.VariantLocation.the-variants.{Upstream, Downstream, Distal, FivePrimeUtr, CdsExon, ThreePrimeUtr, SpliceDonor, SpliceAcceptor, SpliceRegion, Intron, FrameshiftIntron, NonCodingExon, NonCodingIntron}
 use Rattle.locate.specs.declared.Located.{Located}
@@ -12,10 +11,10 @@ use Rattle.words.specs.declared.row.Row.{Row}
 abbrev pub rowWords : Row → List ℤ
 rowWords r = pos (r .kind) ∷ pos (r .mark) ∷ pos (r .index) ∷ pos (r .segment) ∷ pos (r .position) ∷ r .distance ∷ pos (r .number) ∷ []
 
--- a place beside the transcript is no further than the flank
+-- the distance of a place beside the transcript fits a signed word
 abbrev pub Near : VariantLocation → Type 0
-Near (Upstream d) = d ≤ sourceRanges .flank
-Near (Downstream d) = d ≤ sourceRanges .flank
+Near (Upstream d) = d < 2 ^ 63
+Near (Downstream d) = d < 2 ^ 63
 Near Distal = Unit
 Near (FivePrimeUtr i d m) = Unit
 Near (CdsExon i g o n c m) = Unit

@@ -6,6 +6,7 @@ use codon::Codons;
 use consequence::ConsequenceResult;
 use consequence::Counted;
 use consequence::Numbered;
+use consequence::cdna_count;
 ghost use Prim.Native.Nat.{_+_, _*_, _≤_};
 ghost use mathlib.Core.Path.{_≡_};
 ghost use lib.ListN.{length};
@@ -125,7 +126,7 @@ pub(crate) fn put_columns(out: &mut [i64], at: usize, a: ConsequenceResult)
         out,
         at + 4,
         count_of(cds),
-        count_of(cdna),
+        count_of(cdna_count(cdna)),
         count_of(protein),
         reference_word(codons),
     );

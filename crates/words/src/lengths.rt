@@ -1,4 +1,5 @@
 // Whether lent lists and a buffer fit each other.
+use super::CALL_WORDS;
 ghost use mathlib.Core.Path.{_≡_};
 ghost use Rattle.words.specs.Lengths.{callsFit};
 
@@ -22,8 +23,8 @@ pub fn calls_fit(
     if alts.len() != n {
         return false;
     }
-    if out.len() % 20 != 0 {
+    if out.len() % CALL_WORDS != 0 {
         return false;
     }
-    out.len() / 20 == n
+    out.len() / CALL_WORDS == n
 }

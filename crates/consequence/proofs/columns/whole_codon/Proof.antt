@@ -21,8 +21,8 @@ of-requires c κs = search needs
 shows-codon-requires : tie.Need-shows-codon-requires
 shows-codon-requires c κs = search needs
 
-add-t14 : tie.Need-add-t14
-add-t14 c = search needs
+add-t15 : tie.Need-add-t15
+add-t15 c = search needs
 
 returns : tie.Need-returns
 returns c = λ t hs hp.
@@ -30,10 +30,10 @@ returns c = λ t hs hp.
     let e = sym (c .before .shows-codon .ensures t (a .number) hp) ∙ c .if1 .taken in
     let l = c .before .before .before .before .shown-letters .ensures t (a .number) hp in
     let h = c .before .before .of .ensures ∙ ap only (c .before .before .before .coding-term .ensures ∙ ap (λ (s : Bool). codingTerm s (a .reference-letter) (a .altered-letter)) hs) in
-    codon-shown t (a .offset) (a .number) (a .c) (a .altered) (a .k) (a .reference-letter) (a .altered-letter) (c .before .before .before .before .shown-letters .result) (c .before .before .of .result .0) e l h
+    codon-shown t (a .offset .0) (a .number) (a .c) (a .altered) (a .k) (a .reference-letter) (a .altered-letter) (c .before .before .before .before .shown-letters .result) (c .before .before .of .result .0) e l h
 
-add-t18 : tie.Need-add-t18
-add-t18 c = search needs
+add-t19 : tie.Need-add-t19
+add-t19 c = search needs
 
 returns-2 : tie.Need-returns-2
 returns-2 c = λ t hs hp.
@@ -41,7 +41,7 @@ returns-2 c = λ t hs hp.
     let e = sym (c .before .shows-codon .ensures t (a .number) hp) ∙ c .if1 .left in
     let l = c .before .before .before .before .shown-letters .ensures t (a .number) hp in
     let h = c .before .before .of .ensures ∙ ap only (c .before .before .before .coding-term .ensures ∙ ap (λ (s : Bool). codingTerm s (a .reference-letter) (a .altered-letter)) hs) in
-    codon-hidden t (a .offset) (a .number) (a .c) (a .altered) (a .k) (a .reference-letter) (a .altered-letter) (c .before .before .before .before .shown-letters .result) (c .before .before .of .result .0) e l h
+    codon-hidden t (a .offset .0) (a .number) (a .c) (a .altered) (a .k) (a .reference-letter) (a .altered-letter) (c .before .before .before .before .shown-letters .result) (c .before .before .of .result .0) e l h
 
 pub whole-codon-spec : {M : Type 1} → statement M
 whole-codon-spec =
@@ -51,7 +51,7 @@ whole-codon-spec =
     coding-term-requires
     of-requires
     shows-codon-requires
-    add-t14
+    add-t15
     returns
-    add-t18
+    add-t19
     returns-2)
