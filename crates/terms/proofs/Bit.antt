@@ -49,7 +49,7 @@ rank FeatureElongation = omega arith
 rank IntergenicVariant = omega arith
 
 -- a shift by one place more is a shift of the half
-shifted : (n t : ℕ) → n / 2 ^ suc t ≡ n / 2 / 2 ^ t
+pub shifted : (n t : ℕ) → n / 2 ^ suc t ≡ n / 2 / 2 ^ t
 shifted n t = sym (shr-shr n 1 t ∙ ap (λ (e : ℕ). n / 2 ^ e) (one-add t))
 
 -- a number with a bit that is not set has room for it
@@ -67,7 +67,7 @@ room (suc w) (suc t) n h l e =
     omega arith
 
 -- a number with a bit that is set is at least that bit
-held : (t n : ℕ) → n / 2 ^ t % 2 ≡ 1 → 2 ^ t ≤ n
+pub held : (t n : ℕ) → n / 2 ^ t % 2 ≡ 1 → 2 ^ t ≤ n
 held zero n e = let d : n / 1 ≡ n = omega arith in let e′ : n % 2 ≡ 1 = rw d at e in omega arith
 held (suc t) n e = let q = pow-suc 2 t in let r = held t (n / 2) (rw (shifted n t) at e) in omega arith
 

@@ -1,3 +1,4 @@
 pub mod Severity
 pub mod Terms
 pub mod Coding
+pub mod Held
