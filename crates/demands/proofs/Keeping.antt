@@ -26,7 +26,7 @@ use Rattle.consequence.specs.Answer.{placeResult}
 use Rattle.consequence.specs.Call.{addSpliceSpill, callPlace, callCodon, openingRefusal, callRefusal, callResult, annotateSnv}
 use Rattle.demands.specs.Longer.{Longer, insideTranscript}
 use Rattle.demands.specs.Carry.{carryPlace, carryResult, carryLocated, carryCalled}
-use Rattle.demands.specs.Demands.{added, LongerKeeps}
+use Rattle.demands.specs.Demands.{added, nearOuterEnd, callAt, LongerKeeps}
 use Rattle.demands.proofs.Carrying.{kind-carry, offset-carry, cond-located, cond-called}
 use Rattle.demands.proofs.Around.{around-length, around-count}
 use Rattle.demands.proofs.Gaps.{around-spill}
@@ -35,6 +35,7 @@ use Rattle.demands.proofs.Marking.{near-outer}
 use Rattle.demands.proofs.Placing.{locate-carry}
 use Rattle.demands.proofs.Codons.{same-codon}
 use Rattle.demands.proofs.Answering.{result-carry}
+use Rattle.demands.proofs.Gaining.{place-mark-kept, call-mark-kept, call-terms-kept}
 
 module _ (r : Ranges) (S L : Transcript) (x : Longer S L) (hS : Admitted S) (hL : Admitted L) (p : ℕ) (inside : insideTranscript S p ≡ true) where
   edges : (firstStart (oriented S .exons) ≤ orientBase (S .model .strand) p) × (orientBase (S .model .strand) p < lastEnd (oriented S .exons))
@@ -83,8 +84,18 @@ module _ (r : Ranges) (S L : Transcript) (x : Longer S L) (hS : Admitted S) (hL 
   called = rw (same-refusal, same-result) (simp cond-called)
 
 pub longerKeeps : LongerKeeps
-longerKeeps r S L x hS hL w chromosome p e ref alt inside = record {
-  place = located r S L x hS hL p inside chromosome e;
-  call = called r S L x hS hL w (record { chromosome = chromosome; position = p; «ref_base» = ref; «alt_base» = alt }) inside;
-  near = near-outer (x .before) (x .after) (x .begin) (x .finish) (firstStart (oriented S .exons)) (lastEnd (oriented S .exons)) (orientBase (S .model .strand) p) (x .begins) (x .ends);
-}
+longerKeeps r S L x hS hL w chromosome p e ref alt inside =
+    let q = callAt chromosome p ref alt in
+    let a = added S L x p in
+    let near = nearOuterEnd S L x p in
+    let n = near-outer (x .before) (x .after) (x .begin) (x .finish) (firstStart (oriented S .exons)) (lastEnd (oriented S .exons)) (orientBase (S .model .strand) p) (x .begins) (x .ends) in
+    let place = located r S L x hS hL p inside chromosome e in
+    let call = called r S L x hS hL w q inside in
+    record {
+      place = place;
+      call = call;
+      near = n;
+      mark = place-mark-kept a near n (locateVariant r S chromosome p e) (locateVariant r L chromosome p e) place;
+      markOfCall = call-mark-kept a near n (annotateSnv r S w q) (annotateSnv r L w q) call;
+      terms = call-terms-kept a near n (annotateSnv r S w q) (annotateSnv r L w q) call;
+    }

@@ -19,8 +19,10 @@ use Rattle.transcript.specs.Bases.{firstStart, lastEnd, totalSize}
 use Rattle.transcript.specs.Admission.{Admitted}
 use Rattle.locate.specs.PlaceKind.{isCdsExon, placeOffset}
 use Rattle.locate.specs.Query.{locateVariant, locatePosition}
+use Rattle.consequence.specs.declared.Call.{Call}
 use Rattle.consequence.specs.Window.{Window}
 use Rattle.consequence.specs.Call.{annotateSnv}
+use Rattle.demands.specs.Gains.{placeMark, callMark, MarkKept, TermsKept}
 use Rattle.demands.specs.Longer.{Longer, insideTranscript, nearEnds}
 use Rattle.demands.specs.Carry.{Added, carryLocated, carryCalled}
 
@@ -67,12 +69,18 @@ module _ (S L : Transcript) (x : Longer S L) (p : ℕ) where
   abbrev pub nearOuterEnd : Bool
   nearOuterEnd = nearEnds (x .before) (x .after) (firstStart (oriented S .exons)) (lastEnd (oriented S .exons)) (orientBase (S .model .strand) p)
 
--- the longer's two whole answers are the shorter's, carried; a mark is gained only near an outer end beyond which an exon was added
+abbrev pub callAt : ℕ → ℕ → ℕ → ℕ → Call
+callAt chromosome p ref alt = record { chromosome = chromosome; position = p; «ref_base» = ref; «alt_base» = alt }
+
+-- the longer's two whole answers are the shorter's, carried; no mark and no term is lost, and the mark and splice_region_variant
+-- are gained only near an outer end beyond which an exon was added
 pub record Kept (r : Ranges) (S L : Transcript) (x : Longer S L) (w : Window) (chromosome p e ref alt : ℕ) : Type 0 where
   pub place : locateVariant r L chromosome p e ≡ carryLocated (added S L x p) (locateVariant r S chromosome p e)
-  pub call : annotateSnv r L w (record { chromosome = chromosome; position = p; «ref_base» = ref; «alt_base» = alt })
-      ≡ carryCalled (added S L x p) (annotateSnv r S w (record { chromosome = chromosome; position = p; «ref_base» = ref; «alt_base» = alt }))
+  pub call : annotateSnv r L w (callAt chromosome p ref alt) ≡ carryCalled (added S L x p) (annotateSnv r S w (callAt chromosome p ref alt))
   pub near : gained S L x p ≡ true → nearOuterEnd S L x p ≡ true
+  pub mark : MarkKept (placeMark (locateVariant r S chromosome p e)) (placeMark (locateVariant r L chromosome p e)) (nearOuterEnd S L x p)
+  pub markOfCall : MarkKept (callMark (annotateSnv r S w (callAt chromosome p ref alt))) (callMark (annotateSnv r L w (callAt chromosome p ref alt))) (nearOuterEnd S L x p)
+  pub terms : TermsKept (annotateSnv r S w (callAt chromosome p ref alt)) (annotateSnv r L w (callAt chromosome p ref alt)) (nearOuterEnd S L x p)
 
 -- demand 3: every place question and call at a base inside the shorter, refused ones included, over one window and with all else the same
 abbrev pub LongerKeeps : Type 0

@@ -1,3 +1,4 @@
 pub mod Longer
 pub mod Carry
+pub mod Gains
 pub mod Demands
