@@ -1,21 +1,21 @@
 -- A carried answer loses no mark and no term, and gains them only with the mark that was added.
 use mathlib.Core.Path.{_≡_, refl, sym, _∙_}
-use mathlib.Core.Bool.{Bool, true, false, not, _&&_, _||_}
+use mathlib.Core.Bool.{Bool, true, false, _&&_, _||_}
 use borrow.Author.Tests.{eqb-true}
-use Rattle.common.proofs.TestParts.{true-false, and-true}
+use Rattle.common.proofs.TestParts.{true-false, and-true, on-test}
 use Rattle.locate.specs.declared.VariantLocation.{VariantLocation}
 use Rattle.locate.specs.declared.VariantLocation.the-variants.{Upstream, Downstream, Distal, FivePrimeUtr, CdsExon, ThreePrimeUtr, SpliceDonor, SpliceAcceptor, SpliceRegion, Intron, FrameshiftIntron, NonCodingExon, NonCodingIntron}
 use Rattle.locate.specs.declared.Located.{Located}
 use Rattle.consequence.specs.declared.ConsequenceResult.{ConsequenceResult}
 use Rattle.consequence.specs.declared.Called.{Called}
 use Rattle.terms.specs.declared.Consequence.{Consequence}
-use Rattle.terms.specs.declared.Consequence.the-variants.{SpliceAcceptorVariant, SpliceDonorVariant, SpliceRegionVariant}
+use Rattle.terms.specs.declared.Consequence.the-variants.{SpliceRegionVariant}
 use Rattle.terms.specs.Severity.{severityRank}
 use Rattle.terms.specs.Terms.{holdsTerm}
 use Rattle.terms.specs.Held.{sameTerm}
 use Rattle.terms.proofs.Holding.{holdsWithIf}
 use Rattle.terms.proofs.Ranked.{ranksDiffer}
-use Rattle.demands.specs.Carry.{Added, isNumbered, carryPlace, gainsTerm, carryResult, carryLocated, carryCalled}
+use Rattle.demands.specs.Carry.{Added, carryPlace, gainsTerm, carryResult, carryLocated, carryCalled}
 use Rattle.demands.specs.Gains.{spliceMark, placeMark, callMark, MarkKept, TermsKept}
 
 marked : (m g : Bool) → MarkKept m (m || g) g
@@ -59,9 +59,7 @@ module _ (x : Added) where
 
   gains-mark : (a : ConsequenceResult) → gainsTerm x a ≡ true → x .mark ≡ true
   unfolding gainsTerm
-  gains-mark a h =
-      let splice = holdsTerm (a .consequences .0) SpliceDonorVariant || holdsTerm (a .consequences .0) SpliceAcceptorVariant in
-      and-true (x .mark) (isNumbered (a .exon)) (and-true (x .mark && isNumbered (a .exon)) (not splice) h .0) .0
+  gains-mark a h = on-test (x .mark) (λ m. m) (λ m. absurd (true-false (sym (rw m at h))))
 
   terms-kept : (v : Called) → TermsKept v (carryCalled x v) (x .mark)
   terms-kept (Called.Answered a) = record {

@@ -11,19 +11,17 @@ use Rattle.footprint.specs.declared.SpliceSpill.{SpliceSpill}
 use Rattle.transcript.specs.Orient.{Oriented}
 use Rattle.consequence.specs.declared.FetchedCodon.{FetchedCodon}
 use Rattle.terms.specs.declared.Consequence.{Consequence}
-use Rattle.terms.specs.declared.Consequence.the-variants.{SpliceAcceptorVariant, SpliceDonorVariant, SpliceRegionVariant, StopGained, StopLost, StartLost, MissenseVariant, StartRetainedVariant, StopRetainedVariant, IncompleteTerminalCodonVariant, SynonymousVariant, CodingSequenceVariant, FivePrimeUtrVariant, ThreePrimeUtrVariant, NonCodingTranscriptExonVariant}
-use Rattle.terms.specs.Terms.{only, holdsTerm, withTerm, withTermIf, withoutTerm, spillTerms}
+use Rattle.terms.specs.declared.Consequence.the-variants.{SpliceRegionVariant, StopGained, StopLost, StartLost, MissenseVariant, StartRetainedVariant, StopRetainedVariant, IncompleteTerminalCodonVariant, SynonymousVariant, CodingSequenceVariant, FivePrimeUtrVariant, ThreePrimeUtrVariant, NonCodingTranscriptExonVariant}
+use Rattle.terms.specs.Terms.{only, withTerm, withTermIf, withoutTerm, spillTerms}
 use Rattle.terms.specs.Coding.{unknownLetter, startsM, codingTerm}
 use Rattle.consequence.specs.Coding.{isStartCodon}
 use Rattle.consequence.specs.Reading.{isIncompleteTerminalCodon, holdsSelenocysteine}
 use Rattle.consequence.specs.Answer.{Columns, incompleteCodon, wholeCodon, codonColumns}
+use Rattle.demands.specs.Carry.{hasSplice}
 
 -- an exon base's terms with the mark, after the spill
 abbrev pub marked : ℕ → Bool → SpliceSpill → ℕ
 marked terms mark s = spillTerms (s .donor) (s .acceptor) (withTermIf mark terms SpliceRegionVariant)
-
-abbrev pub hasSplice : ℕ → Bool
-hasSplice terms = holdsTerm terms SpliceDonorVariant || holdsTerm terms SpliceAcceptorVariant
 
 -- with the mark kept or gained, the terms are the former ones, and splice_region_variant where it is gained and no spill is there
 abbrev pub Keeps : ℕ → Type 0

@@ -62,5 +62,5 @@ minus-longer = record {
 
 pub pairs : Pairs
 unfolding exonsOf segmentsOf any oriented badCounts badCoordinates ascending indexFault cuts sameCuts admission endAfter basesIn findAfter findExonOrIntron intervalIndex exonic locate gapsAfter exonicSpliceSpill baseNumber questionRefusal openingRefusal callRefusal callResult placeResult annotateSnv spillTerms withTerm withoutTerm plus-longer minus-longer
-pairs Plus = record { admittedShorter = refl; admittedLonger = refl; isLonger = plus-longer; before = refl; after = refl; inside = refl; shorterTerms = refl; longerTerms = refl }
-pairs Minus = record { admittedShorter = refl; admittedLonger = refl; isLonger = minus-longer; before = refl; after = refl; inside = refl; shorterTerms = refl; longerTerms = refl }
+pairs Plus = record { admittedShorter = refl; admittedLonger = refl; isLonger = plus-longer; before = refl; after = refl; inside = refl; near = refl; notNear = refl; shorterTerms = refl; longerTerms = refl }
+pairs Minus = record { admittedShorter = refl; admittedLonger = refl; isLonger = minus-longer; before = refl; after = refl; inside = refl; near = refl; notNear = refl; shorterTerms = refl; longerTerms = refl }

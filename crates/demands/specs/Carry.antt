@@ -48,11 +48,13 @@ abbrev pub isNumbered : Numbered → Bool
 isNumbered Numbered.Absent = false
 isNumbered (Numbered.Of k n) = true
 
+-- the terms hold a splice term, as a spill gives an exon base
+abbrev pub hasSplice : ℕ → Bool
+hasSplice terms = holdsTerm terms SpliceDonorVariant || holdsTerm terms SpliceAcceptorVariant
+
 -- an exon base gains splice_region_variant with the mark, unless a spill gave it a splice term
 unfoldable pub gainsTerm : Added → ConsequenceResult → Bool
-gainsTerm x a =
-    x .mark && isNumbered (a .exon)
-    && not (holdsTerm (a .consequences .0) SpliceDonorVariant || holdsTerm (a .consequences .0) SpliceAcceptorVariant)
+gainsTerm x a = x .mark && isNumbered (a .exon) && not (hasSplice (a .consequences .0))
 
 unfoldable pub carryResult : Added → ConsequenceResult → ConsequenceResult
 carryResult x a = record {

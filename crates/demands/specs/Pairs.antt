@@ -1,6 +1,6 @@
 -- A shorter and a longer transcript on each strand, to which demand 3 applies: exons are added at both ends, and the shorter's first exon
 -- begins farther 5' in the longer.
-use Prim.Native.Nat.{ℕ}
+use Prim.Native.Nat.{ℕ, _+_, _-_}
 use mathlib.Core.Bool.{true, false}
 use mathlib.Core.List.{[], _∷_, map}
 use mathlib.Core.Path.{_≡_}
@@ -18,7 +18,7 @@ use Rattle.consequence.specs.Call.{annotateSnv}
 use Rattle.terms.specs.declared.Consequence.the-variants.{SpliceRegionVariant, ThreePrimeUtrVariant}
 use Rattle.demands.specs.Longer.{Longer, insideTranscript}
 use Rattle.demands.specs.Gains.{hasTerm}
-use Rattle.demands.specs.Demands.{callAt}
+use Rattle.demands.specs.Demands.{nearOuterEnd, callAt}
 
 -- on chromosome 1, CDS [110,170)
 abbrev model : Strand → ℕ → ℕ → ℕ → ℕ → TranscriptModel
@@ -36,27 +36,29 @@ longer Plus =
 longer Minus =
     lent (model Minus 8 4 50 230) (215 ∷ 160 ∷ 100 ∷ 50 ∷ []) (230 ∷ 195 ∷ 130 ∷ 80 ∷ []) (0 ∷ 2 ∷ []) (1 ∷ 2 ∷ []) (160 ∷ 110 ∷ []) (170 ∷ 130 ∷ []) (127 ∷ [])
 
--- the shorter's last base in strand order
-abbrev pub lastBase : Strand → ℕ
-lastBase Plus = 189
-lastBase Minus = 100
+-- the shorter's last base but n in strand order
+abbrev pub lastBut : ℕ → Strand → ℕ
+lastBut n Plus = 189 - n
+lastBut n Minus = 100 + n
 
--- A to C there, read through a window of that base alone
-abbrev pub lastCall : (Strand → Transcript) → Strand → Called
-lastCall transcript strand =
-    annotateSnv sourceRanges (transcript strand) (record { chromosome = 1; first = lastBase strand; bytes = byte "A" ∷ [] }) (callAt 1 (lastBase strand) (byte "A") (byte "C"))
+-- A to C at the third base from the end, read through a window of that base alone
+abbrev pub callNear : (Strand → Transcript) → Strand → Called
+callNear transcript strand =
+    annotateSnv sourceRanges (transcript strand) (record { chromosome = 1; first = lastBut 2 strand; bytes = byte "A" ∷ [] }) (callAt 1 (lastBut 2 strand) (byte "A") (byte "C"))
 
 -- the premises of demand 3 hold of the pair: both are admitted, one is longer, an exon being added at each end, and a base is inside the
--- shorter; there splice_region_variant is gained
+-- shorter; splice_region_variant is gained there, and the base before it is not near the end
 pub record Pair (strand : Strand) : Type 0 where
   pub admittedShorter : Admitted (shorter strand)
   pub admittedLonger : Admitted (longer strand)
   pub isLonger : Longer (shorter strand) (longer strand)
   pub before : length (isLonger .before) ≡ 1
   pub after : length (isLonger .after) ≡ 1
-  pub inside : insideTranscript (shorter strand) (lastBase strand) ≡ true
-  pub shorterTerms : map (hasTerm (lastCall shorter strand)) (ThreePrimeUtrVariant ∷ SpliceRegionVariant ∷ []) ≡ true ∷ false ∷ []
-  pub longerTerms : map (hasTerm (lastCall longer strand)) (ThreePrimeUtrVariant ∷ SpliceRegionVariant ∷ []) ≡ true ∷ true ∷ []
+  pub inside : insideTranscript (shorter strand) (lastBut 2 strand) ≡ true
+  pub near : nearOuterEnd (shorter strand) (longer strand) isLonger (lastBut 2 strand) ≡ true
+  pub notNear : nearOuterEnd (shorter strand) (longer strand) isLonger (lastBut 3 strand) ≡ false
+  pub shorterTerms : map (hasTerm (callNear shorter strand)) (ThreePrimeUtrVariant ∷ SpliceRegionVariant ∷ []) ≡ true ∷ false ∷ []
+  pub longerTerms : map (hasTerm (callNear longer strand)) (ThreePrimeUtrVariant ∷ SpliceRegionVariant ∷ []) ≡ true ∷ true ∷ []
 
 abbrev pub Pairs : Type 0
 Pairs = (strand : Strand) → Pair strand
