@@ -69,6 +69,7 @@ module _ (S L : Transcript) (x : Longer S L) (p : ℕ) where
   abbrev pub nearOuterEnd : Bool
   nearOuterEnd = nearEnds (x .before) (x .after) (firstStart (oriented S .exons)) (lastEnd (oriented S .exons)) (orientBase (S .model .strand) p)
 
+-- the call of base ref turned into alt at p
 abbrev pub callAt : ℕ → ℕ → ℕ → ℕ → Call
 callAt chromosome p ref alt = record { chromosome = chromosome; position = p; «ref_base» = ref; «alt_base» = alt }
 
