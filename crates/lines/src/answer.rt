@@ -1,5 +1,6 @@
 // The line of an answered call.
 use crate::Written;
+use crate::columns::push_cdna;
 use crate::columns::push_codons;
 use crate::columns::push_counted;
 use crate::columns::push_letters;
@@ -10,7 +11,6 @@ use crate::places::place_kind;
 use crate::places::push_place;
 use common::text::push_byte;
 use consequence::ConsequenceResult;
-use consequence::cdna_count;
 ghost use mathlib.Core.Path.{_≡_};
 ghost use Prim.Native.Nat.{_+_, _≤_, _<_, _^_};
 ghost use Rattle.common.specs.Stored.{Pushed};
@@ -45,7 +45,7 @@ fn push_numbers(out: &mut [u8], at: usize, x: ConsequenceResult) -> usize
     let d = push_byte(out, c, 32);
     let e = push_counted(out, d, cds);
     let f = push_byte(out, e, 32);
-    let g = push_counted(out, f, cdna_count(cdna));
+    let g = push_cdna(out, f, cdna);
     let h = push_byte(out, g, 32);
     let i = push_counted(out, h, protein);
     push_byte(out, i, 32)

@@ -4,8 +4,10 @@ use codon::Codon;
 use codon::Codons;
 use common::text::push_byte;
 use common::text::push_decimal;
+use consequence::CdnaCounted;
 use consequence::Counted;
 use consequence::Numbered;
+use consequence::cdna_count;
 use names::push_name;
 use terms::TermSet;
 ghost use mathlib.Core.Path.{_≡_};
@@ -14,6 +16,7 @@ ghost use Prim.Native.Nat.{_+_, _≤_, _<_, _^_};
 ghost use Rattle.common.specs.Stored.{Pushed};
 ghost use Rattle.codon.specs.Display.{lowercase, shown, formatCodon, formatCodons, formatAminoAcids};
 ghost use Rattle.names.specs.Names.{termName};
+ghost use Rattle.consequence.specs.Answer.{cdnaCount};
 ghost use Rattle.lines.specs.Line.{numbered, counted, behind, termList};
 
 // k/n, `-` for absent.
@@ -41,6 +44,14 @@ pub(crate) fn push_counted(out: &mut [u8], at: usize, n: Counted) -> usize
         Counted::Absent => push_byte(out, at, 45),
         Counted::At(k) => push_decimal(out, at, k as u64),
     }
+}
+
+pub(crate) fn push_cdna(out: &mut [u8], at: usize, n: CdnaCounted) -> usize
+    requires { ⌜ at + 20 < 2 ^ 64 ⌝ }
+    ensures { λ r. ⌜ Pushed (now out.entry) at (counted (cdnaCount n)) (now out.exit) r ⌝ }
+    ensures { λ r. ⌜ r ≤ at + 20 ⌝ }
+{
+    push_counted(out, at, cdna_count(n))
 }
 
 // An ASCII capital becomes small.

@@ -4,6 +4,7 @@ use codon::AminoAcids;
 use codon::Codon;
 use codon::Codons;
 use consequence::ConsequenceResult;
+use consequence::CdnaCounted;
 use consequence::Counted;
 use consequence::Numbered;
 use consequence::cdna_count;
@@ -11,6 +12,7 @@ ghost use Prim.Native.Nat.{_+_, _*_, _≤_};
 ghost use mathlib.Core.Path.{_≡_};
 ghost use lib.ListN.{length};
 ghost use lib.Seq.{sets};
+ghost use Rattle.consequence.specs.Answer.{cdnaCount};
 ghost use Rattle.words.specs.CallWords.{numberOf, totalOf, countOf, codonWord, referenceWord, alteredWord};
 ghost use Rattle.words.specs.CallWords.{changedPlace, lettersWord, columnWords};
 
@@ -30,6 +32,12 @@ fn total_of(n: Numbered) -> u32
         Numbered::Absent => 0,
         Numbered::Of { number, total } => total as u32,
     }
+}
+
+fn cdna_of(n: CdnaCounted) -> u32
+    ensures { λ r. ⌜ r ≡ countOf (cdnaCount n) ⌝ }
+{
+    count_of(cdna_count(n))
 }
 
 fn count_of(n: Counted) -> u32
@@ -126,7 +134,7 @@ pub(crate) fn put_columns(out: &mut [i64], at: usize, a: ConsequenceResult)
         out,
         at + 4,
         count_of(cds),
-        count_of(cdna_count(cdna)),
+        cdna_of(cdna),
         count_of(protein),
         reference_word(codons),
     );
