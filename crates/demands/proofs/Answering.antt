@@ -2,6 +2,7 @@
 use Prim.Native.Nat.{ℕ, _+_, _-_, _<_}
 use mathlib.Core.Path.{_≡_, refl}
 use mathlib.Core.Bool.{Bool, true, false, _&&_, _||_}
+use mathlib.Core.List.{List}
 use native.Mathlib.Omega.{arith}
 use lib.ListN.{length}
 use Rattle.footprint.specs.declared.SpliceSpill.{SpliceSpill}
@@ -10,7 +11,8 @@ use Rattle.locate.specs.declared.VariantLocation.the-variants.{Upstream, Downst
 use Rattle.transcript.specs.Orient.{Oriented}
 use Rattle.transcript.specs.Bases.{basesIn}
 use Rattle.consequence.specs.declared.FetchedCodon.{FetchedCodon}
-use Rattle.consequence.specs.Answer.{Columns, flankResult, intronResult, exonResult, codonColumns, placeResult}
+use Rattle.consequence.specs.Region.{withMark}
+use Rattle.consequence.specs.Answer.{Columns, noCodon, flankResult, intronResult, exonResult, codonColumns, placeResult}
 use Rattle.consequence.specs.Call.{addSpliceSpill}
 use Rattle.demands.specs.Carry.{Added, carryPlace, gainsTerm, carryResult}
 use Rattle.demands.proofs.Alike.{Alike}
@@ -37,28 +39,30 @@ module _ (S L : Oriented) (a : Alike S L) (x : Added) (s : SpliceSpill) (p : ℕ
       let n : length (L .exons) - 1 ≡ length (S .exons) - 1 + x .exons = omega arith in
       rw (k, n, no-gain)
 
-  exon-result : (place : VariantLocation) (i : ℕ) (m : Bool) (c : Columns) → Keeps (c .terms)
-      → addSpliceSpill s (exonResult L p (carryPlace x place) (i + x .exons5) (m || x .mark) c) ≡ carryResult x (addSpliceSpill s (exonResult S p place i m c))
+  exon-result : (place : VariantLocation) (i : ℕ) (m : Bool) (c : Columns) (terms : ℕ) → Keeps terms
+      → addSpliceSpill s (exonResult L p (carryPlace x place) (i + x .exons5) c (withMark (m || x .mark) terms))
+      ≡ carryResult x (addSpliceSpill s (exonResult S p place i c (withMark m terms)))
   unfolding carryResult gainsTerm
-  exon-result place i m c f =
+  exon-result place i m c terms f =
       let k : i + x .exons5 + 1 ≡ i + 1 + x .exons5 = omega arith in
       let n : basesIn (L .exons) 0 p + 1 ≡ basesIn (S .exons) 0 p + 1 + x .bases5 = omega arith in
       rw (k, total, n, f m (x .mark) s)
 
-  pub result-carry : (alt : ℕ) (codonL codonS : ℕ → FetchedCodon) → ((k : ℕ) → codonL k ≡ codonS k) → (place : VariantLocation)
-      → addSpliceSpill s (placeResult L p alt codonL (carryPlace x place)) ≡ carryResult x (addSpliceSpill s (placeResult S p alt codonS place))
+  pub result-carry : (code : List ℕ) (alt : ℕ) (codonL codonS : ℕ → FetchedCodon) → ((k : ℕ) → codonL k ≡ codonS k) → (place : VariantLocation)
+      → addSpliceSpill s (placeResult code L p alt codonL (carryPlace x place)) ≡ carryResult x (addSpliceSpill s (placeResult code S p alt codonS place))
   unfolding placeResult carryPlace
-  result-carry alt u v e (Upstream d) = flank-carry x s (Upstream d) _
-  result-carry alt u v e (Downstream d) = flank-carry x s (Downstream d) _
-  result-carry alt u v e Distal = flank-carry x s Distal _
-  result-carry alt u v e (FivePrimeUtr i d m) = exon-result (FivePrimeUtr i d m) i m _ keeps-five
-  result-carry alt u v e (CdsExon i g o n k m) =
-      rw (e o, same-columns S L a o n k alt (v o)) (exon-result (CdsExon i g o n k m) i m (codonColumns S o n k alt (v o)) (keeps-columns S o n k alt (v o)))
-  result-carry alt u v e (ThreePrimeUtr i d m) = exon-result (ThreePrimeUtr i d m) i m _ keeps-three
-  result-carry alt u v e (SpliceDonor i d) = intron-result (SpliceDonor i d) i _
-  result-carry alt u v e (SpliceAcceptor i d) = intron-result (SpliceAcceptor i d) i _
-  result-carry alt u v e (SpliceRegion i t d) = intron-result (SpliceRegion i t d) i _
-  result-carry alt u v e (Intron i d) = intron-result (Intron i d) i _
-  result-carry alt u v e (FrameshiftIntron i d) = rw (a .coding) (intron-result (FrameshiftIntron i d) i _)
-  result-carry alt u v e (NonCodingExon i m) = exon-result (NonCodingExon i m) i m _ keeps-noncoding
-  result-carry alt u v e (NonCodingIntron i d) = intron-result (NonCodingIntron i d) i _
+  result-carry code alt u v e (Upstream d) = flank-carry x s (Upstream d) _
+  result-carry code alt u v e (Downstream d) = flank-carry x s (Downstream d) _
+  result-carry code alt u v e Distal = flank-carry x s Distal _
+  result-carry code alt u v e (FivePrimeUtr i d m) = exon-result (FivePrimeUtr i d m) i m noCodon _ keeps-five
+  result-carry code alt u v e (CdsExon i g o n k m) =
+      let c = codonColumns code S o n k alt (v o) in
+      rw (e o, same-columns S L a code o n k alt (v o)) (exon-result (CdsExon i g o n k m) i m c (c .terms) (keeps-columns code S o n k alt (v o)))
+  result-carry code alt u v e (ThreePrimeUtr i d m) = exon-result (ThreePrimeUtr i d m) i m noCodon _ keeps-three
+  result-carry code alt u v e (SpliceDonor i d) = intron-result (SpliceDonor i d) i _
+  result-carry code alt u v e (SpliceAcceptor i d) = intron-result (SpliceAcceptor i d) i _
+  result-carry code alt u v e (SpliceRegion i t d) = intron-result (SpliceRegion i t d) i _
+  result-carry code alt u v e (Intron i d) = intron-result (Intron i d) i _
+  result-carry code alt u v e (FrameshiftIntron i d) = rw (a .coding) (intron-result (FrameshiftIntron i d) i _)
+  result-carry code alt u v e (NonCodingExon i m) = exon-result (NonCodingExon i m) i m noCodon _ keeps-noncoding
+  result-carry code alt u v e (NonCodingIntron i d) = intron-result (NonCodingIntron i d) i _

@@ -1,6 +1,7 @@
 -- The longer reads the same codons, letters and terms.
 use Prim.Native.Nat.{ℕ, _+_, _/_}
 use mathlib.Core.Path.{_≡_, refl, sym, _∙_}
+use mathlib.Core.List.{List}
 use lib.Dec.{eqb}
 use Rattle.common.proofs.Lists.{any-map}
 use Rattle.transcript.specs.Orient.{Oriented}
@@ -24,7 +25,7 @@ module _ (S L : Oriented) (a : Alike S L) where
       ∙ rw (a .segments, a .pad) (a .selenocysteine (λ b. eqb n (cdsOffset S b / 3 + 1)))
       ∙ sym (any-map (eqb n) (λ b. cdsOffset S b / 3 + 1) (S .selenocysteine))
 
-  pub same-columns : (offset number k alt : ℕ) (c : FetchedCodon) → codonColumns L offset number k alt c ≡ codonColumns S offset number k alt c
+  pub same-columns : (code : List ℕ) (offset number k alt : ℕ) (c : FetchedCodon) → codonColumns code L offset number k alt c ≡ codonColumns code S offset number k alt c
   unfolding codonColumns shownLetters
-  same-columns offset number k alt (FetchedCodon.Bases c) = rw (same-held number, a .segments, a .pad, a .startComplete)
-  same-columns offset number k alt FetchedCodon.OutsideWindow = refl
+  same-columns code offset number k alt (FetchedCodon.Bases c) = rw (same-held number, a .segments, a .pad, a .startComplete)
+  same-columns code offset number k alt FetchedCodon.OutsideWindow = refl

@@ -2,11 +2,12 @@
 use Prim.Native.Nat.{ℕ}
 use mathlib.Core.Path.{_≡_, refl}
 use mathlib.Core.Bool.{Bool, true, false, cond, not, _&&_, _||_}
+use mathlib.Core.List.{List}
 use lib.Dec.{eqb}
 use borrow.Author.Tests.{eqb-true}
 use Rattle.common.specs.Text.{byte}
 use Rattle.common.proofs.TestParts.{and-true}
-use Rattle.codon.specs.Table.{standardTable, translateCodon, translateReferenceCodon, buildAltCodon}
+use Rattle.codon.specs.Table.{translateCodon, translateReferenceCodon, buildAltCodon}
 use Rattle.footprint.specs.declared.SpliceSpill.{SpliceSpill}
 use Rattle.transcript.specs.Orient.{Oriented}
 use Rattle.consequence.specs.declared.FetchedCodon.{FetchedCodon}
@@ -93,12 +94,12 @@ either-columns : (b : Bool) (u v : Columns) → KeepsColumns u → KeepsColumns 
 either-columns true u v f g = f
 either-columns false u v f g = g
 
-pub keeps-columns : (t : Oriented) (offset number k alt : ℕ) (c : FetchedCodon) → KeepsColumns (codonColumns t offset number k alt c)
+pub keeps-columns : (code : List ℕ) (t : Oriented) (offset number k alt : ℕ) (c : FetchedCodon) → KeepsColumns (codonColumns code t offset number k alt c)
 unfolding codonColumns kept spillTerms withTerm withoutTerm
-keeps-columns t offset number k alt (FetchedCodon.Bases c) =
+keeps-columns code t offset number k alt (FetchedCodon.Bases c) =
     let altered = buildAltCodon c k alt in
-    let ref = translateReferenceCodon standardTable (holdsSelenocysteine t number) c in
-    let read = translateCodon standardTable altered in
+    let ref = translateReferenceCodon code (holdsSelenocysteine t number) c in
+    let read = translateCodon code altered in
     either-columns (isIncompleteTerminalCodon t offset) (incompleteCodon offset number c altered k) (wholeCodon t offset number c altered k ref read)
     (computed (withTerm (only IncompleteTerminalCodonVariant) CodingSequenceVariant) refl) (keeps-coding (isStartCodon t number) ref read)
-keeps-columns t offset number k alt FetchedCodon.OutsideWindow = computed (only CodingSequenceVariant) refl
+keeps-columns code t offset number k alt FetchedCodon.OutsideWindow = computed 0 refl

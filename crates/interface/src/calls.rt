@@ -46,7 +46,7 @@ fn put_calls(
 )
     requires { let t = given model «exon_starts» «exon_ends» «seg_phases» «seg_exons» «seg_starts» «seg_ends» selenocysteine in
         ⌜ Prepared t scalars (now «cumulative_exons») (now «cumulative_cds») (now «selenocysteine_codons») ⌝
-        ∗ ⌜ ranges .flank < 2 ^ 63 ⌝
+        ∗ ⌜ ranges .flank < 2 ^ 32 ⌝
         ∗ ⌜ callsFit (now chromosomes) (now positions) (now refs) (now alts) (now out) ≡ true ⌝ }
     ensures { λ _.
         let t = wasGiven model «exon_starts» «exon_ends» «seg_phases» «seg_exons» «seg_starts» «seg_ends» selenocysteine in

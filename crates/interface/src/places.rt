@@ -36,7 +36,7 @@ fn put_places(
 )
     requires { let t = given model «exon_starts» «exon_ends» «seg_phases» «seg_exons» «seg_starts» «seg_ends» selenocysteine in
         ⌜ Ready t scalars (now «cumulative_exons») ⌝
-        ∗ ⌜ ranges .flank < 2 ^ 63 ⌝
+        ∗ ⌜ ranges .flank < 2 ^ 32 ⌝
         ∗ ⌜ length (now out) ≡ 8 * length (now positions) ⌝ }
     ensures { λ _.
         let t = wasGiven model «exon_starts» «exon_ends» «seg_phases» «seg_exons» «seg_starts» «seg_ends» selenocysteine in

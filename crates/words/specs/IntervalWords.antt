@@ -50,11 +50,11 @@ spillWords (Spilled.Refused n) = pos 0 ∷ pos 0 ∷ []
 abbrev pub intervalWords : Flanked → Endpoint → Spilled → List ℤ
 intervalWords f e s = pos 0 ∷ (flankWords f ++ (endpointWords e ++ spillWords s))
 
--- the distance of a flank fits a signed word
+-- the distance of a flank fits 32 bits
 abbrev pub NearFlank : Flank → Type 0
 NearFlank Overlaps = Unit
-NearFlank (Upstream d) = d < 2 ^ 63
-NearFlank (Downstream d) = d < 2 ^ 63
+NearFlank (Upstream d) = d < 2 ^ 32
+NearFlank (Downstream d) = d < 2 ^ 32
 NearFlank Far = Unit
 
 abbrev pub NearFlanked : Flanked → Type 0

@@ -11,10 +11,10 @@ use Rattle.words.specs.declared.row.Row.{Row}
 abbrev pub rowWords : Row → List ℤ
 rowWords r = pos (r .kind) ∷ pos (r .mark) ∷ pos (r .index) ∷ pos (r .segment) ∷ pos (r .position) ∷ r .distance ∷ pos (r .number) ∷ []
 
--- the distance of a place beside the transcript fits a signed word
+-- the distance of a place beside the transcript fits 32 bits
 abbrev pub Near : VariantLocation → Type 0
-Near (Upstream d) = d < 2 ^ 63
-Near (Downstream d) = d < 2 ^ 63
+Near (Upstream d) = d < 2 ^ 32
+Near (Downstream d) = d < 2 ^ 32
 Near Distal = Unit
 Near (FivePrimeUtr i d m) = Unit
 Near (CdsExon i g o n c m) = Unit

@@ -4,6 +4,7 @@ use mathlib.Core.Path.{_∙_}
 use mathlib.Core.List.{[], _∷_, _++_}
 use lib.IntN.{pos}
 use denote.Ref.{now}
+use Rattle.consequence.specs.Answer.{cdnaCount}
 use Rattle.words.specs.CallWords.{numberOf, totalOf, countOf, referenceWord, alteredWord, changedPlace, lettersWord}
 use Rattle.words.proofs.Putting.{put-on}
 use borrow.Author.Needs.{needs}
@@ -31,11 +32,11 @@ add-put-counts c = search needs
 count-of-requires : tie.Need-count-of-requires
 count-of-requires c κs = search needs
 
+cdna-of-requires : tie.Need-cdna-of-requires
+cdna-of-requires c κs = search needs
+
 count-of-requires-2 : tie.Need-count-of-requires-2
 count-of-requires-2 c κs = search needs
-
-count-of-requires-3 : tie.Need-count-of-requires-3
-count-of-requires-3 c κs = search needs
 
 reference-word-requires : tie.Need-reference-word-requires
 reference-word-requires c κs = search needs
@@ -68,12 +69,12 @@ returns c =
     let l = now (x .out) in
     let i = x .at in
     let one = pos (numberOf (a .exon)) ∷ pos (totalOf (a .exon)) ∷ pos (numberOf (a .intron)) ∷ pos (totalOf (a .intron)) ∷ [] in
-    let two = pos (countOf (a .«cds_position»)) ∷ pos (countOf (a .«cdna_position»)) ∷ pos (countOf (a .«protein_start»)) ∷ pos (referenceWord (a .codons)) ∷ [] in
+    let two = pos (countOf (a .«cds_position»)) ∷ pos (countOf (cdnaCount (a .«cdna_position»))) ∷ pos (countOf (a .«protein_start»)) ∷ pos (referenceWord (a .codons)) ∷ [] in
     let three = pos (alteredWord (a .codons)) ∷ pos (changedPlace (a .codons)) ∷ pos (lettersWord (a .«amino_acids»)) ∷ pos (a .consequences .0) ∷ [] in
     put-on l i (one ++ two) three
     (put-on l i one two
     (c .before .before .before .before .before .before .before .before .before .before .before .before .before .before .before .put-counts .ensures ∙ rw (c .before .before .before .before .before .before .before .before .before .before .before .before .before .before .before .before .before .before .before .number-of .ensures, c .before .before .before .before .before .before .before .before .before .before .before .before .before .before .before .before .before .before .total-of .ensures, c .before .before .before .before .before .before .before .before .before .before .before .before .before .before .before .before .before .number-of2 .ensures, c .before .before .before .before .before .before .before .before .before .before .before .before .before .before .before .before .total-of2 .ensures))
-    (c .before .before .before .before .before .before .before .before .put-counts2 .ensures ∙ rw (c .before .before .before .before .before .before .before .before .before .before .before .before .count-of .ensures, c .before .before .before .before .before .before .before .before .before .before .before .count-of2 .ensures, c .before .before .before .before .before .before .before .before .before .before .count-of3 .ensures, c .before .before .before .before .before .before .before .before .before .reference-word .ensures)))
+    (c .before .before .before .before .before .before .before .before .put-counts2 .ensures ∙ rw (c .before .before .before .before .before .before .before .before .before .before .before .before .count-of .ensures, c .before .before .before .before .before .before .before .before .before .before .before .cdna-of .ensures, c .before .before .before .before .before .before .before .before .before .before .count-of2 .ensures, c .before .before .before .before .before .before .before .before .before .reference-word .ensures)))
     (c .before .put-counts3 .ensures ∙ rw (c .before .before .before .before .altered-word .ensures, c .before .before .before .changed-place .ensures, c .before .before .letters-word .ensures))
 
 pub put-columns-spec : {M : Type 1} → statement M
@@ -87,8 +88,8 @@ put-columns-spec =
     put-counts-requires
     add-put-counts
     count-of-requires
+    cdna-of-requires
     count-of-requires-2
-    count-of-requires-3
     reference-word-requires
     put-counts-requires-2
     add-put-counts-2
