@@ -1,12 +1,13 @@
 -- The answer to a call: the number of a refusal, and a place that is near.
 -- Assumes nothing.
-use Prim.Native.Nat.{ℕ, _<_}
+use Prim.Native.Nat.{ℕ, _<_, _^_}
 use mathlib.Core.Path.{_≡_, refl}
+use mathlib.Core.List.{List}
 use mathlib.Core.Bool.{Bool, true, false, cond}
 use lib.Dec.{eqb}
 use Rattle.transcript.specs.Transcript.{Transcript}
 use Rattle.transcript.specs.Orient.{Oriented, orientBase, oriented}
-use Rattle.footprint.specs.Ranges.{sourceRanges}
+use Rattle.footprint.specs.declared.Ranges.{Ranges}
 use Rattle.locate.specs.declared.VariantLocation.{VariantLocation}
 use Rattle.locate.specs.declared.VariantLocation.the-variants.{Upstream, Downstream, Distal, FivePrimeUtr, CdsExon, ThreePrimeUtr, SpliceDonor, SpliceAcceptor, SpliceRegion, Intron, FrameshiftIntron, NonCodingExon, NonCodingIntron}
 use Rattle.consequence.specs.declared.Call.{Call}
@@ -22,21 +23,21 @@ use Rattle.interface.proofs.Nearness.{near-place}
 use Rattle.interface.proofs.Leaving.{some-number}
 
 -- the place of an answer is the one it was made at
-near-result : (t : Oriented) (p alt : ℕ) (codon : ℕ → FetchedCodon) (place : VariantLocation) → Near place → Near (placeResult t p alt codon place .location)
+near-result : (code : List ℕ) (t : Oriented) (p alt : ℕ) (codon : ℕ → FetchedCodon) (place : VariantLocation) → Near place → Near (placeResult code t p alt codon place .location)
 unfolding placeResult
-near-result t p alt codon (Upstream d) h = h
-near-result t p alt codon (Downstream d) h = h
-near-result t p alt codon Distal h = h
-near-result t p alt codon (FivePrimeUtr i d m) h = h
-near-result t p alt codon (CdsExon i g o n k m) h = h
-near-result t p alt codon (ThreePrimeUtr i d m) h = h
-near-result t p alt codon (SpliceDonor i d) h = h
-near-result t p alt codon (SpliceAcceptor i d) h = h
-near-result t p alt codon (SpliceRegion i s d) h = h
-near-result t p alt codon (Intron i d) h = h
-near-result t p alt codon (FrameshiftIntron i d) h = h
-near-result t p alt codon (NonCodingExon i m) h = h
-near-result t p alt codon (NonCodingIntron i d) h = h
+near-result code t p alt codon (Upstream d) h = h
+near-result code t p alt codon (Downstream d) h = h
+near-result code t p alt codon Distal h = h
+near-result code t p alt codon (FivePrimeUtr i d m) h = h
+near-result code t p alt codon (CdsExon i g o n k m) h = h
+near-result code t p alt codon (ThreePrimeUtr i d m) h = h
+near-result code t p alt codon (SpliceDonor i d) h = h
+near-result code t p alt codon (SpliceAcceptor i d) h = h
+near-result code t p alt codon (SpliceRegion i s d) h = h
+near-result code t p alt codon (Intron i d) h = h
+near-result code t p alt codon (FrameshiftIntron i d) h = h
+near-result code t p alt codon (NonCodingExon i m) h = h
+near-result code t p alt codon (NonCodingIntron i d) h = h
 
 near-answer : (b : Bool) (a : ConsequenceResult) (n : ℕ) → Near (a .location) → NearCalled (cond b (Called.Answered a) (Called.Refused n))
 near-answer true a n h = h
@@ -46,16 +47,16 @@ abbrev isRefused : Called → Bool
 isRefused (Called.Answered a) = false
 isRefused (Called.Refused n) = true
 
-module _ (t : Transcript) (w : Window) (q : Call) where
-  pub near-called : NearCalled (annotateSnv sourceRanges t w q)
+module _ (r : Ranges) (t : Transcript) (w : Window) (q : Call) where
+  pub near-called : r .flank < 2 ^ 32 → NearCalled (annotateSnv r t w q)
   unfolding annotateSnv callResult
-  near-called =
+  near-called l =
       let p = orientBase (t .model .strand) (q .position) in
-      near-answer (eqb (callRefusal sourceRanges t w q) 0) (callResult sourceRanges t w q) (callRefusal sourceRanges t w q)
-      (near-result (oriented t) p (codingByte (t .model .strand) (q .«alt_base»)) (callCodon t w) (callPlace sourceRanges t q) (near-place (oriented t) p))
+      near-answer (eqb (callRefusal r t w q) 0) (callResult r t w q) (callRefusal r t w q)
+      (near-result _ (oriented t) p (codingByte (t .model .strand) (q .«alt_base»)) (callCodon t w) (callPlace r t q) (near-place r l (oriented t) p))
 
   -- a refused call has a number
-  pub called-some : (n : ℕ) → annotateSnv sourceRanges t w q ≡ Called.Refused n → 0 < n
+  pub called-some : (n : ℕ) → annotateSnv r t w q ≡ Called.Refused n → 0 < n
   unfolding annotateSnv
   called-some n h =
-      some-number Called.Refused isRefused calledNumber (λ k. refl) (λ k. refl) (Called.Answered (callResult sourceRanges t w q)) refl (callRefusal sourceRanges t w q) n h
+      some-number Called.Refused isRefused calledNumber (λ k. refl) (λ k. refl) (Called.Answered (callResult r t w q)) refl (callRefusal r t w q) n h

@@ -1,6 +1,6 @@
--- The three questions about an interval: refused alike, a flank within its range.
+-- The three questions about an interval: refused alike, a flank whose distance fits 32 bits.
 -- Assumes nothing.
-use Prim.Native.Nat.{ℕ, _+_, _-_, _≤_, _<_}
+use Prim.Native.Nat.{ℕ, _+_, _-_, _<_, _^_, _≤_}
 use mathlib.Core.Path.{_≡_, refl, sym, ap}
 use mathlib.Core.Bool.{Bool, true, false, cond}
 use native.Mathlib.Omega.{arith}
@@ -27,7 +27,7 @@ near-either true x y f n = f refl
 near-either false x y f n = n
 
 -- an insertion has one base less between
-distance-low : (b : Bool) (n : ℕ) → n < 5000 → cond b n (n + 1) ≤ 5000
+distance-low : (b : Bool) (n : ℕ) → n < 5000 → cond b n (n + 1) < 2 ^ 32
 distance-low true n h = omega arith
 distance-low false n h = omega arith
 

@@ -1,7 +1,8 @@
--- A place beside a transcript is no further than the flank.
+-- The distance of a place beside a transcript fits 32 bits where the flank does.
 -- Assumes nothing.
-use Prim.Native.Nat.{ℕ, _+_, _-_}
+use Prim.Native.Nat.{ℕ, _+_, _-_, _<_, _^_}
 use mathlib.Core.Path.{_≡_, refl}
+use native.Mathlib.Omega.{arith}
 use mathlib.Core.Bool.{Bool, true, false, cond, not, _&&_, _||_}
 use lib.Dec.{leb, ltb, eqb}
 use lib.IntN.{ℤ, pos}
@@ -10,6 +11,7 @@ use Rattle.transcript.specs.Transcript.{Transcript}
 use Rattle.transcript.specs.Orient.{Oriented, orientBase, oriented}
 use Rattle.transcript.specs.Bases.{firstStart, lastEnd}
 use Rattle.transcript.specs.Question.{placeRefusal}
+use Rattle.footprint.specs.declared.Ranges.{Ranges}
 use Rattle.footprint.specs.Ranges.{sourceRanges, spliceCanonicalMax, frameshiftIntronMaxGap}
 use Rattle.locate.specs.declared.VariantLocation.{VariantLocation}
 use Rattle.locate.specs.declared.VariantLocation.the-variants.{Upstream, Downstream, Distal, SpliceRegion}
@@ -21,6 +23,10 @@ use Rattle.locate.specs.Place.{exonic, placeFound, locate}
 use Rattle.locate.specs.Query.{locateVariant}
 use Rattle.words.specs.Row.{Near, NearAt}
 
+-- the source's flank
+pub flank-low : (r : Ranges) → r ≡ sourceRanges → r .flank < 2 ^ 32
+flank-low r e = rw e (omega arith)
+
 near-either : (b : Bool) (x y : VariantLocation) → (b ≡ true → Near x) → Near y → Near (cond b x y)
 near-either true x y f n = f refl
 near-either false x y f n = n
@@ -29,14 +35,14 @@ near-deep : (coding : Bool) (i : ℕ) (d : ℤ) → Near (deepIntron coding i d)
 near-deep true i d = tt
 near-deep false i d = tt
 
-near-intron : (coding : Bool) (i gap d a : ℕ) → Near (classifyDistances sourceRanges coding i gap d a)
+near-intron : (r : Ranges) (coding : Bool) (i gap d a : ℕ) → Near (classifyDistances r coding i gap d a)
 unfolding classifyDistances
-near-intron coding i gap d a =
+near-intron r coding i gap d a =
     near-either (leb gap frameshiftIntronMaxGap) _ _ (λ h. tt)
     (near-either (leb d spliceCanonicalMax) _ _ (λ h. tt)
     (near-either (leb a spliceCanonicalMax) _ _ (λ h. tt)
-    (near-either (leb d 8 || leb a 17) _ _
-    (λ h. near-either (leb d 8 && (not (leb a 17) || leb d a)) (SpliceRegion i Donor (pos d)) (SpliceRegion i Acceptor (minus a)) (λ k. tt) tt)
+    (near-either (leb d (r .donor) || leb a (r .acceptor)) _ _
+    (λ h. near-either (leb d (r .donor) && (not (leb a (r .acceptor)) || leb d a)) (SpliceRegion i Donor (pos d)) (SpliceRegion i Acceptor (minus a)) (λ k. tt) tt)
     (near-deep coding i (signedDistance d a)))))
 
 near-exon : (t : Oriented) (p i : ℕ) (mark : Bool) → Near (exonic t p i mark)
@@ -47,25 +53,25 @@ near-exon t p i mark =
     (near-either (leb (t .cds .end) p) _ _ (λ h. tt)
     tt))
 
-near-found : (t : Oriented) (p : ℕ) (w : Found) → Near (placeFound sourceRanges t p w)
-near-found t p (inExon i x) = near-exon t p i _
-near-found t p (inIntron i gap) = near-intron (t .coding) i _ _ _
-near-found t p outside = tt
+near-found : (r : Ranges) (t : Oriented) (p : ℕ) (w : Found) → Near (placeFound r t p w)
+near-found r t p (inExon i x) = near-exon t p i _
+near-found r t p (inIntron i gap) = near-intron r (t .coding) i _ _ _
+near-found r t p outside = tt
 
-pub near-place : (t : Oriented) (p : ℕ) → Near (locate sourceRanges t p)
+pub near-place : (r : Ranges) → r .flank < 2 ^ 32 → (t : Oriented) (p : ℕ) → Near (locate r t p)
 unfolding locate
-near-place t p =
+near-place r l t p =
     near-either (ltb p (firstStart (t .exons))) _ _
-    (λ h. near-either (leb (firstStart (t .exons) - p) 5000) (Upstream (firstStart (t .exons) - p)) Distal (λ k. leb-true _ _ k) tt)
+    (λ h. near-either (leb (firstStart (t .exons) - p) (r .flank)) (Upstream (firstStart (t .exons) - p)) Distal (λ k. (let h = leb-true (firstStart (t .exons) - p) (r .flank) k in omega arith)) tt)
     (near-either (leb (lastEnd (t .exons)) p) _ _
-    (λ h. near-either (leb (p - lastEnd (t .exons) + 1) 5000) (Downstream (p - lastEnd (t .exons) + 1)) Distal (λ k. leb-true _ _ k) tt)
-    (near-found t p (findExonOrIntron (t .exons) p)))
+    (λ h. near-either (leb (p - lastEnd (t .exons) + 1) (r .flank)) (Downstream (p - lastEnd (t .exons) + 1)) Distal (λ k. (let h = leb-true (p - lastEnd (t .exons) + 1) (r .flank) k in omega arith)) tt)
+    (near-found r t p (findExonOrIntron (t .exons) p)))
 
 near-answer : (b : Bool) (place : VariantLocation) (n : ℕ) → Near place → NearAt (cond b (Located.At place) (Located.Refused n))
 near-answer true place n h = h
 near-answer false place n h = tt
 
 -- of the question of a place
-pub near-located : (t : Transcript) (c s e : ℕ) → NearAt (locateVariant sourceRanges t c s e)
+pub near-located : (r : Ranges) → r .flank < 2 ^ 32 → (t : Transcript) (c s e : ℕ) → NearAt (locateVariant r t c s e)
 unfolding locateVariant
-near-located t c s e = near-answer (eqb (placeRefusal t c s e) 0) _ _ (near-place (oriented t) (orientBase (t .model .strand) s))
+near-located r l t c s e = near-answer (eqb (placeRefusal t c s e) 0) _ _ (near-place r l (oriented t) (orientBase (t .model .strand) s))

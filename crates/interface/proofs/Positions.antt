@@ -11,7 +11,7 @@ use Rattle.transcript.specs.Transcript.{Transcript}
 use Rattle.transcript.specs.Orient.{orientBase, oriented}
 use Rattle.transcript.specs.Admission.{admission}
 use Rattle.transcript.specs.Question.{badInterval}
-use Rattle.footprint.specs.Ranges.{sourceRanges}
+use Rattle.footprint.specs.declared.Ranges.{Ranges}
 use Rattle.locate.specs.declared.Located.{Located}
 use Rattle.locate.specs.Place.{locate}
 use Rattle.locate.specs.Query.{locatePosition}
@@ -28,12 +28,12 @@ bad-base p h = rw (lt-ltb queryLimit (p + 1) (omega arith)) (either (ltb queryLi
 good-base : (p : ℕ) → p < queryLimit → (badInterval p (p + 1) || eqb p (p + 1)) ≡ false
 good-base p h = rw (le-ltb queryLimit p (omega arith), le-ltb queryLimit (p + 1) (omega arith), le-ltb (p + 1) p (omega arith), ne-eqb p (p + 1) (λ z. (omega arith)))
 
-module _ (t : Transcript) (c p : ℕ) (h : admission t ≡ 0) where
-  pub is-15 : queryLimit ≤ p → Located.Refused 15 ≡ locatePosition sourceRanges t c p
-  is-15 l = by-15 t c p (p + 1) h (bad-base p l)
+module _ (r : Ranges) (t : Transcript) (c p : ℕ) (h : admission t ≡ 0) where
+  pub is-15 : queryLimit ≤ p → Located.Refused 15 ≡ locatePosition r t c p
+  is-15 l = by-15 r t c p (p + 1) h (bad-base p l)
 
-  pub is-14 : p < queryLimit → (c ≡ t .model .chromosome → ⊥) → Located.Refused 14 ≡ locatePosition sourceRanges t c p
-  is-14 l k = by-14 t c p (p + 1) h (good-base p l) k
+  pub is-14 : p < queryLimit → (c ≡ t .model .chromosome → ⊥) → Located.Refused 14 ≡ locatePosition r t c p
+  is-14 l k = by-14 r t c p (p + 1) h (good-base p l) k
 
-  pub is-at : p < queryLimit → c ≡ t .model .chromosome → Located.At (locate sourceRanges (oriented t) (orientBase (t .model .strand) p)) ≡ locatePosition sourceRanges t c p
-  is-at l k = by-place t c p (p + 1) h (good-base p l) k
+  pub is-at : p < queryLimit → c ≡ t .model .chromosome → Located.At (locate r (oriented t) (orientBase (t .model .strand) p)) ≡ locatePosition r t c p
+  is-at l k = by-place r t c p (p + 1) h (good-base p l) k

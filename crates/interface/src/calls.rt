@@ -13,6 +13,7 @@ use words::CALL_WORDS;
 use words::calls_fit;
 use words::put_called;
 ghost use mathlib.Core.Path.{_≡_};
+ghost use Prim.Native.Nat.{_<_, _^_};
 ghost use Rattle.transcript.specs.Transcript.{given, wasGiven};
 ghost use Rattle.consequence.specs.Window.{windowWasGiven};
 ghost use mathlib.Core.Bool.{true};

@@ -50,7 +50,7 @@ returns-2 c =
     let n = c .before .called .given .0 .0 in
     let e : answer b ≡ Called.Refused n = sym (c .before .before .before .annotate-snv .ensures) ∙ c .before .called .given .1 in
     refused (fits b) (calledNumber (answer b)) (calledWords (answer b)) (now (b .args .out)) (eq-eqb (length (now (b .args .out))) 20 (c .before .before .before .before .if1 .left)) n (ap calledNumber e)
-    (called-some (transcript b) (window b) (b .args .call) n e)
+    (called-some sourceRanges (transcript b) (window b) (b .args .call) n e)
 
 enum-told : tie.Need-enum-told
 enum-told c = search needs
@@ -58,7 +58,7 @@ enum-told c = search needs
 put-called-requires : tie.Need-put-called-requires
 put-called-requires c κs =
     let b = c .before .before .before .before .before .before .before .before .before .before .before .before .before in
-    (omega (arith, c .before .before .before .before .if1 .left), rw (c .before .before .before .annotate-snv .ensures) (near-called (transcript b) (window b) (b .args .call)))
+    (omega (arith, c .before .before .before .before .if1 .left), rw (c .before .before .before .annotate-snv .ensures) (near-called sourceRanges (transcript b) (window b) (b .args .call) (omega arith)))
 
 same-length : tie.Need-same-length
 same-length c = search needs

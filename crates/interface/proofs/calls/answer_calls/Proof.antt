@@ -17,6 +17,8 @@ use Rattle.locate.proofs.Offset.{index-exons, index-cds}
 use Rattle.consequence.specs.Window.{Window}
 use Rattle.words.specs.Lengths.{callsFit}
 use Rattle.interface.specs.Calls.{callsOf, callsWords}
+use Rattle.footprint.specs.Ranges.{sourceRanges}
+use Rattle.interface.proofs.Nearness.{flank-low}
 use Rattle.interface.proofs.Leaving.{misfit, refused, answered}
 use borrow.Author.Needs.{needs}
 use Rattle.interface.proofs.calls.answer_calls.Statement.{statement}
@@ -32,7 +34,7 @@ abbrev fits : tie.Start → Bool
 fits b = callsFit (now (b .args .chromosomes)) (now (b .args .positions)) (now (b .args .refs)) (now (b .args .alts)) (now (b .args .out))
 
 abbrev words : tie.Start → List ℤ
-words b = callsWords (transcript b) (window b) (callsOf (now (b .args .chromosomes)) (now (b .args .positions)) (now (b .args .refs)) (now (b .args .alts)))
+words b = callsWords sourceRanges (transcript b) (window b) (callsOf (now (b .args .chromosomes)) (now (b .args .positions)) (now (b .args .refs)) (now (b .args .alts)))
 
 -- past the test of the lengths
 abbrev start : tie.Else1 → tie.Start
@@ -81,6 +83,9 @@ returns-2 c =
 index-of-requires : tie.Need-index-of-requires
 index-of-requires c κs = admitted c
 
+source-ranges-requires : tie.Need-source-ranges-requires
+source-ranges-requires c κs = search needs
+
 slice-aggregate-put-calls : tie.Need-slice-aggregate-put-calls
 slice-aggregate-put-calls c = search needs
 
@@ -89,9 +94,9 @@ slice-aggregate-put-calls-2 c = search needs
 
 put-calls-requires : tie.Need-put-calls-requires
 put-calls-requires c κs =
-    let i = c .before .before .before .before .before .before .before .before .index-of .ensures in
-    let a = admitted (c .before .before .before .before .before .before .before .before .before) in
-    let b = start (c .before .before .before .before .before .before .before .before .before .before .before .before) in (
+    let i = c .before .before .before .before .before .before .before .before .before .index-of .ensures in
+    let a = admitted (c .before .before .before .before .before .before .before .before .before .before) in
+    let b = start (c .before .before .before .before .before .before .before .before .before .before .before .before .before) in (
       record {
         admitted = a;
         scalars-are = ap (λ (x : LocateIndex). x .scalars) i;
@@ -99,7 +104,10 @@ put-calls-requires c κs =
         segments-are = rw (ap (λ (x : LocateIndex). x .«cumulative_cds») i) (index-cds (oriented (transcript b)) (pad-2 (b .args .model) (now (b .args .exon-starts)) (now (b .args .exon-ends)) (now (b .args .seg-phases)) (now (b .args .seg-exons)) (now (b .args .seg-starts)) (now (b .args .seg-ends)) (now (b .args .selenocysteine)) a));
         codons-are = ap (λ (x : LocateIndex). x .«selenocysteine_codons») i;
       },
-      fit (c .before .before .before .before .before .before .before .before .before .before .before .before),
+      (
+        flank-low (c .before .before .before .before .source-ranges .result) (c .before .before .before .before .source-ranges .ensures),
+        fit (c .before .before .before .before .before .before .before .before .before .before .before .before .before),
+      ),
     )
 
 same-length-3 : tie.Need-same-length-3
@@ -107,9 +115,9 @@ same-length-3 c = search needs
 
 returns-3 : tie.Need-returns-3
 returns-3 c =
-    let e = c .before .before .before .before .before .before .before .before .before .before .before .before .before .before in
+    let e = c .before .before .before .before .before .before .before .before .before .before .before .before .before .before .before in
     let b = start e in
-    answered (fits b) (admission (transcript b)) (words b) (now (b .args .out)) (fit e) (admitted (c .before .before .before .before .before .before .before .before .before .before .before)) _ (c .before .put-calls .ensures)
+    answered (fits b) (admission (transcript b)) (words b) (now (b .args .out)) (fit e) (admitted (c .before .before .before .before .before .before .before .before .before .before .before .before)) _ (rw (c .before .before .before .before .before .before .source-ranges .ensures) at (c .before .put-calls .ensures))
 
 pub answer-calls-spec : {M : Type 1} → statement M
 answer-calls-spec =
@@ -125,6 +133,7 @@ answer-calls-spec =
     same-length-2
     returns-2
     index-of-requires
+    source-ranges-requires
     slice-aggregate-put-calls
     slice-aggregate-put-calls-2
     put-calls-requires

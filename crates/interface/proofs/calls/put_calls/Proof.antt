@@ -9,7 +9,6 @@ use lib.IntN.{ℤ}
 use lib.Seq.{sets}
 use denote.Ref.{now}
 use Rattle.transcript.specs.Transcript.{Transcript, lent}
-use Rattle.footprint.specs.Ranges.{sourceRanges}
 use Rattle.consequence.specs.declared.Call.{Call}
 use Rattle.consequence.specs.declared.Called.{Called}
 use Rattle.consequence.specs.Window.{Window}
@@ -24,12 +23,12 @@ use Rattle.interface.proofs.calls.put_calls.Statement.{statement}
 use Rattle.interface.proofs.calls.put_calls.Tie as tie
 
 abbrev Inv-loop : tie.InvT-loop
-Inv-loop window-chromosome window-first window chromosomes positions refs alts model exon-starts exon-ends seg-phases seg-exons seg-starts seg-ends selenocysteine scalars cumulative-exons cumulative-cds selenocysteine-codons out₀ i₀ out i =
+Inv-loop ranges window-chromosome window-first window chromosomes positions refs alts model exon-starts exon-ends seg-phases seg-exons seg-starts seg-ends selenocysteine scalars cumulative-exons cumulative-cds selenocysteine-codons out₀ i₀ out i =
     (i ≤ length positions)
-    × (out ≡ filledTo (callWords (lent model exon-starts exon-ends seg-phases seg-exons seg-starts seg-ends selenocysteine) (record { chromosome = window-chromosome; first = window-first; bytes = window })) 20 (callsOf chromosomes positions refs alts) out₀ i)
+    × (out ≡ filledTo (callWords ranges (lent model exon-starts exon-ends seg-phases seg-exons seg-starts seg-ends selenocysteine) (record { chromosome = window-chromosome; first = window-first; bytes = window })) 20 (callsOf chromosomes positions refs alts) out₀ i)
 
 abbrev μ-loop : tie.MeasureT-loop
-μ-loop window-chromosome window-first window chromosomes positions refs alts model exon-starts exon-ends seg-phases seg-exons seg-starts seg-ends selenocysteine scalars cumulative-exons cumulative-cds selenocysteine-codons out₀ i₀ out i =
+μ-loop ranges window-chromosome window-first window chromosomes positions refs alts model exon-starts exon-ends seg-phases seg-exons seg-starts seg-ends selenocysteine scalars cumulative-exons cumulative-cds selenocysteine-codons out₀ i₀ out i =
     length positions - i
 
 abbrev Start : Type 0
@@ -42,22 +41,22 @@ abbrev window : Start → Window
 window b = record { chromosome = b .args .window-chromosome; first = b .args .window-first; bytes = now (b .args .window) }
 
 abbrev words : Start → Call → List ℤ
-words b q = callWords (transcript b) (window b) q
+words b q = callWords (b .args .ranges) (transcript b) (window b) q
 
 length-20 : (b : Start) (q : Call) → length (words b q) ≡ 20
-length-20 b q = called-length (annotateSnv sourceRanges (transcript b) (window b) q)
+length-20 b q = called-length (annotateSnv (b .args .ranges) (transcript b) (window b) q)
 
 abbrev calls : Start → List Call
 calls b = callsOf (now (b .args .chromosomes)) (now (b .args .positions)) (now (b .args .refs)) (now (b .args .alts))
 
 even : (b : Start) → Even (now (b .args .chromosomes)) (now (b .args .positions)) (now (b .args .refs)) (now (b .args .alts))
-even b = fit-even (now (b .args .chromosomes)) (now (b .args .positions)) (now (b .args .refs)) (now (b .args .alts)) (now (b .args .out)) (b .pre .1)
+even b = fit-even (now (b .args .chromosomes)) (now (b .args .positions)) (now (b .args .refs)) (now (b .args .alts)) (now (b .args .out)) (b .pre .1 .1)
 
 count : (b : Start) → length (calls b) ≡ length (now (b .args .positions))
 count b = calls-length (now (b .args .chromosomes)) (now (b .args .positions)) (now (b .args .refs)) (now (b .args .alts)) (even b)
 
 room : (b : Start) → length (now (b .args .out)) ≡ 20 * length (calls b)
-room b = rw (count b) (fit-room (now (b .args .chromosomes)) (now (b .args .positions)) (now (b .args .refs)) (now (b .args .alts)) (now (b .args .out)) (b .pre .1))
+room b = rw (count b) (fit-room (now (b .args .chromosomes)) (now (b .args .positions)) (now (b .args .refs)) (now (b .args .alts)) (now (b .args .out)) (b .pre .1 .1))
 
 -- the buffer while the first i calls are answered
 abbrev at : Start → ℕ → List ℤ
@@ -78,29 +77,29 @@ more b i l =
 loop-holds : tie.Need-loop-holds Inv-loop μ-loop
 loop-holds c = let b = c .before .before .before .before .before .before .before .before .before .before .before .before .before .before in (omega arith, filled-none (words b) 20 (length-20 b) (calls b) (now (b .args .out)) (room b))
 
-mul-t24 : tie.Need-mul-t24 Inv-loop μ-loop
-mul-t24 c = let e = even (c .before .before .before .before .before .before .before .before .before .before .before .before .before .before .before .before) .chromosomes in record { fits = omega arith }
+mul-t25 : tie.Need-mul-t25 Inv-loop μ-loop
+mul-t25 c = let e = even (c .before .before .before .before .before .before .before .before .before .before .before .before .before .before .before .before) .chromosomes in record { fits = omega arith }
 
-shared-slice-read-t27 : tie.Need-shared-slice-read-t27 Inv-loop μ-loop
-shared-slice-read-t27 c = let e = even (c .before .before .before .before .before .before .before .before .before .before .before .before .before .before .before .before .before) .chromosomes in omega arith
+shared-slice-read-t28 : tie.Need-shared-slice-read-t28 Inv-loop μ-loop
+shared-slice-read-t28 c = let e = even (c .before .before .before .before .before .before .before .before .before .before .before .before .before .before .before .before .before) .chromosomes in omega arith
 
-mul-t28 : tie.Need-mul-t28 Inv-loop μ-loop
-mul-t28 c = record { fits = omega arith }
+mul-t29 : tie.Need-mul-t29 Inv-loop μ-loop
+mul-t29 c = record { fits = omega arith }
 
-shared-slice-read-t30 : tie.Need-shared-slice-read-t30 Inv-loop μ-loop
-shared-slice-read-t30 c = omega arith
+shared-slice-read-t31 : tie.Need-shared-slice-read-t31 Inv-loop μ-loop
+shared-slice-read-t31 c = omega arith
 
-shared-slice-read-t32 : tie.Need-shared-slice-read-t32 Inv-loop μ-loop
-shared-slice-read-t32 c = let e = even (c .before .before .before .before .before .before .before .before .before .before .before .before .before .before .before .before .before .before .before) .refs in omega arith
+shared-slice-read-t33 : tie.Need-shared-slice-read-t33 Inv-loop μ-loop
+shared-slice-read-t33 c = let e = even (c .before .before .before .before .before .before .before .before .before .before .before .before .before .before .before .before .before .before .before) .refs in omega arith
 
-shared-slice-read-t34 : tie.Need-shared-slice-read-t34 Inv-loop μ-loop
-shared-slice-read-t34 c = let e = even (c .before .before .before .before .before .before .before .before .before .before .before .before .before .before .before .before .before .before .before .before) .alts in omega arith
+shared-slice-read-t35 : tie.Need-shared-slice-read-t35 Inv-loop μ-loop
+shared-slice-read-t35 c = let e = even (c .before .before .before .before .before .before .before .before .before .before .before .before .before .before .before .before .before .before .before .before) .alts in omega arith
 
 annotate-admitted-requires : tie.Need-annotate-admitted-requires Inv-loop μ-loop
 annotate-admitted-requires c κs = c .before .before .before .before .before .before .before .before .before .before .before .before .before .before .before .before .before .before .before .before .pre .0
 
 mul-put-called : tie.Need-mul-put-called Inv-loop μ-loop
-mul-put-called c = let e = room (c .before .before .before .before .before .before .before .before .before .before .before .before .before .before .before .before .before .before .before .before .before .before) in let k = count (c .before .before .before .before .before .before .before .before .before .before .before .before .before .before .before .before .before .before .before .before .before .before) in let g = c .before .before .before .before .before .before .before .before .before .before .before .before .before .before .before .before .before .before .before .before .before .before .good .1 .1 .1 .1 .1 .1 .1 .1 .1 .1 .1 .1 .1 .1 .1 .1 .1 .1 .1 .0 in record { fits = omega arith }
+mul-put-called c = let e = room (c .before .before .before .before .before .before .before .before .before .before .before .before .before .before .before .before .before .before .before .before .before .before) in let k = count (c .before .before .before .before .before .before .before .before .before .before .before .before .before .before .before .before .before .before .before .before .before .before) in let g = c .before .before .before .before .before .before .before .before .before .before .before .before .before .before .before .before .before .before .before .before .before .before .good .1 .1 .1 .1 .1 .1 .1 .1 .1 .1 .1 .1 .1 .1 .1 .1 .1 .1 .1 .1 .0 in record { fits = omega arith }
 
 put-called-requires : tie.Need-put-called-requires Inv-loop μ-loop
 put-called-requires c κs =
@@ -109,10 +108,10 @@ put-called-requires c κs =
     let k = ap length (l .inv .1) ∙ long b (l .i) (l .inv .0) in
     let e = room b in
     let n = count b in
-    (omega arith, rw (c .before .annotate-admitted .ensures) (near-called (transcript b) (window b) (asked b (l .i))))
+    (omega arith, rw (c .before .annotate-admitted .ensures) (near-called (b .args .ranges) (transcript b) (window b) (asked b (l .i)) (b .pre .1 .0)))
 
 add-i : tie.Need-add-i Inv-loop μ-loop
-add-i c = let g = c .before .before .before .before .before .before .before .before .before .before .before .before .before .before .before .before .before .before .before .before .before .before .before .before .good .1 .1 .1 .1 .0 in record { fits = omega arith }
+add-i c = let g = c .before .before .before .before .before .before .before .before .before .before .before .before .before .before .before .before .before .before .before .before .before .before .before .before .good .1 .1 .1 .1 .1 .0 in record { fits = omega arith }
 
 loop-less : tie.Need-loop-less Inv-loop μ-loop
 loop-less c = omega arith
@@ -145,12 +144,12 @@ put-calls-spec =
     Inv-loop
     μ-loop
     loop-holds
-    mul-t24
-    shared-slice-read-t27
-    mul-t28
-    shared-slice-read-t30
-    shared-slice-read-t32
-    shared-slice-read-t34
+    mul-t25
+    shared-slice-read-t28
+    mul-t29
+    shared-slice-read-t31
+    shared-slice-read-t33
+    shared-slice-read-t35
     annotate-admitted-requires
     mul-put-called
     put-called-requires

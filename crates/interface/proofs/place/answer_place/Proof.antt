@@ -54,7 +54,7 @@ enum-told c = search needs
 put-located-requires : tie.Need-put-located-requires
 put-located-requires c κs =
     let b = c .before .before .before .before .before .before .before .before .before .before .before .before in
-    (omega (arith, c .before .before .before .before .if1 .left), rw (c .before .before .before .locate-variant .ensures) (near-located (transcript b) (b .args .chromosome) (b .args .start) (b .args .end)))
+    (omega (arith, c .before .before .before .before .if1 .left), rw (c .before .before .before .locate-variant .ensures) (near-located sourceRanges (omega arith) (transcript b) (b .args .chromosome) (b .args .start) (b .args .end)))
 
 same-length : tie.Need-same-length
 same-length c = search needs

@@ -17,6 +17,8 @@ use Rattle.transcript.specs.Orient.{oriented}
 use Rattle.locate.specs.declared.LocateIndex.{LocateIndex}
 use Rattle.locate.proofs.Offset.{index-exons}
 use Rattle.interface.specs.Lists.{placesWords}
+use Rattle.footprint.specs.Ranges.{sourceRanges}
+use Rattle.interface.proofs.Nearness.{flank-low}
 use Rattle.interface.proofs.Leaving.{misfit, refused, answered}
 use borrow.Author.Needs.{needs}
 use Rattle.interface.proofs.places.answer_places.Statement.{statement}
@@ -29,7 +31,7 @@ abbrev fits : tie.Start → Bool
 fits b = eqb (length (now (b .args .out))) (8 * length (now (b .args .positions)))
 
 abbrev words : tie.Start → List ℤ
-words b = placesWords (transcript b) (b .args .chromosome) (now (b .args .positions))
+words b = placesWords sourceRanges (transcript b) (b .args .chromosome) (now (b .args .positions))
 
 -- past the tests of its length the buffer fits
 abbrev start : tie.Else2 → tie.Start
@@ -75,18 +77,24 @@ returns-3 c =
 index-of-requires : tie.Need-index-of-requires
 index-of-requires c κs = admitted c
 
+source-ranges-requires : tie.Need-source-ranges-requires
+source-ranges-requires c κs = search needs
+
 slice-aggregate-put-places : tie.Need-slice-aggregate-put-places
 slice-aggregate-put-places c = search needs
 
 put-places-requires : tie.Need-put-places-requires
 put-places-requires c κs =
-    let i = c .before .before .before .before .index-of .ensures in (
+    let i = c .before .before .before .before .before .index-of .ensures in (
       record {
-        admitted = admitted (c .before .before .before .before .before);
+        admitted = admitted (c .before .before .before .before .before .before);
         scalars-are = ap (λ (x : LocateIndex). x .scalars) i;
-        exons-are = rw (ap (λ (x : LocateIndex). x .«cumulative_exons») i) (index-exons (oriented (transcript (start (c .before .before .before .before .before .before .before .before)))));
+        exons-are = rw (ap (λ (x : LocateIndex). x .«cumulative_exons») i) (index-exons (oriented (transcript (start (c .before .before .before .before .before .before .before .before .before)))));
       },
-      long (c .before .before .before .before .before .before .before .before),
+      (
+        flank-low (c .before .before .source-ranges .result) (c .before .before .source-ranges .ensures),
+        long (c .before .before .before .before .before .before .before .before .before),
+      ),
     )
 
 same-length : tie.Need-same-length
@@ -94,9 +102,9 @@ same-length c = search needs
 
 returns-4 : tie.Need-returns-4
 returns-4 c =
-    let e = c .before .before .before .before .before .before .before .before .before .before in
+    let e = c .before .before .before .before .before .before .before .before .before .before .before in
     let b = start e in
-    answered (fits b) (admission (transcript b)) (words b) (now (b .args .out)) (fit e) (admitted (c .before .before .before .before .before .before .before)) _ (c .before .put-places .ensures)
+    answered (fits b) (admission (transcript b)) (words b) (now (b .args .out)) (fit e) (admitted (c .before .before .before .before .before .before .before .before)) _ (rw (c .before .before .before .before .source-ranges .ensures) at (c .before .put-places .ensures))
 
 pub answer-places-spec : {M : Type 1} → statement M
 answer-places-spec =
@@ -110,6 +118,7 @@ answer-places-spec =
     refusal-number-requires
     returns-3
     index-of-requires
+    source-ranges-requires
     slice-aggregate-put-places
     put-places-requires
     same-length

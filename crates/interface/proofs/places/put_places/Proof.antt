@@ -9,7 +9,7 @@ use lib.IntN.{ℤ}
 use lib.Seq.{sets}
 use denote.Ref.{now}
 use Rattle.transcript.specs.Transcript.{Transcript, lent}
-use Rattle.footprint.specs.Ranges.{sourceRanges}
+use Rattle.footprint.specs.declared.Ranges.{Ranges}
 use Rattle.locate.specs.declared.Located.{Located}
 use Rattle.locate.specs.Query.{locatePosition}
 use Rattle.words.specs.Words.{locatedWords}
@@ -20,15 +20,15 @@ use Rattle.interface.proofs.Nearness.{near-located}
 use Rattle.interface.proofs.places.put_places.Statement.{statement}
 use Rattle.interface.proofs.places.put_places.Tie as tie
 
-even : (t : Transcript) (c p : ℕ) → length (positionWords t c p) ≡ 8
-even t c p = located-length (locatePosition sourceRanges t c p)
+even : (r : Ranges) (t : Transcript) (c p : ℕ) → length (positionWords r t c p) ≡ 8
+even r t c p = located-length (locatePosition r t c p)
 
 abbrev Inv-loop : tie.InvT-loop
-Inv-loop chromosome positions model exon-starts exon-ends seg-phases seg-exons seg-starts seg-ends selenocysteine scalars cumulative-exons out₀ i₀ out i =
-    (i ≤ length positions) × (out ≡ filledTo (positionWords (lent model exon-starts exon-ends seg-phases seg-exons seg-starts seg-ends selenocysteine) chromosome) 8 positions out₀ i)
+Inv-loop ranges chromosome positions model exon-starts exon-ends seg-phases seg-exons seg-starts seg-ends selenocysteine scalars cumulative-exons out₀ i₀ out i =
+    (i ≤ length positions) × (out ≡ filledTo (positionWords ranges (lent model exon-starts exon-ends seg-phases seg-exons seg-starts seg-ends selenocysteine) chromosome) 8 positions out₀ i)
 
 abbrev μ-loop : tie.MeasureT-loop
-μ-loop chromosome positions model exon-starts exon-ends seg-phases seg-exons seg-starts seg-ends selenocysteine scalars cumulative-exons out₀ i₀ out i =
+μ-loop ranges chromosome positions model exon-starts exon-ends seg-phases seg-exons seg-starts seg-ends selenocysteine scalars cumulative-exons out₀ i₀ out i =
     length positions - i
 
 abbrev Start : Type 0
@@ -38,20 +38,20 @@ abbrev transcript : Start → Transcript
 transcript b = lent (b .args .model) (now (b .args .exon-starts)) (now (b .args .exon-ends)) (now (b .args .seg-phases)) (now (b .args .seg-exons)) (now (b .args .seg-starts)) (now (b .args .seg-ends)) (now (b .args .selenocysteine))
 
 abbrev words : Start → ℕ → List ℤ
-words b p = positionWords (transcript b) (b .args .chromosome) p
+words b p = positionWords (b .args .ranges) (transcript b) (b .args .chromosome) p
 
 -- the buffer while the first i positions are answered
 abbrev at : Start → ℕ → List ℤ
 at b i = filledTo (words b) 8 (now (b .args .positions)) (now (b .args .out)) i
 
 long : (b : Start) (i : ℕ) → i ≤ length (now (b .args .positions)) → length (at b i) ≡ length (now (b .args .out))
-long b i l = filled-length (words b) 8 (even (transcript b) (b .args .chromosome)) (now (b .args .positions)) (now (b .args .out)) (b .pre .1) i l
+long b i l = filled-length (words b) 8 (even (b .args .ranges) (transcript b) (b .args .chromosome)) (now (b .args .positions)) (now (b .args .out)) (b .pre .1 .1) i l
 
 more : (b : Start) (i : ℕ) → i < length (now (b .args .positions)) → sets (at b i) (8 * i) (words b (getD (now (b .args .positions)) i 0)) ≡ at b (i + 1)
-more b i l = filled-more (words b) 8 (even (transcript b) (b .args .chromosome)) (now (b .args .positions)) (now (b .args .out)) (b .pre .1) i 0 l
+more b i l = filled-more (words b) 8 (even (b .args .ranges) (transcript b) (b .args .chromosome)) (now (b .args .positions)) (now (b .args .out)) (b .pre .1 .1) i 0 l
 
 loop-holds : tie.Need-loop-holds Inv-loop μ-loop
-loop-holds c = let b = c .before .before .before .before .before .before .before .before .before in (omega arith, filled-none (words b) 8 (even (transcript b) (b .args .chromosome)) (now (b .args .positions)) (now (b .args .out)) (b .pre .1))
+loop-holds c = let b = c .before .before .before .before .before .before .before .before .before in (omega arith, filled-none (words b) 8 (even (b .args .ranges) (transcript b) (b .args .chromosome)) (now (b .args .positions)) (now (b .args .out)) (b .pre .1 .1))
 
 mul-p : tie.Need-mul-p Inv-loop μ-loop
 mul-p c = record { fits = omega arith }
@@ -70,8 +70,8 @@ put-located-requires c κs =
     let b = c .before .before .before .before .before .before .before .before .before .before .before .before .before .before in
     let l = c .before .before .before .before .loop in
     let k = ap length (l .inv .1) ∙ long b (l .i) (l .inv .0) in
-    let e = b .pre .1 in
-    (omega arith, rw (c .before .locate-position .ensures) (near-located (transcript b) (b .args .chromosome) (getD (now (b .args .positions)) (l .i) 0) (getD (now (b .args .positions)) (l .i) 0 + 1)))
+    let e = b .pre .1 .1 in
+    (omega arith, rw (c .before .locate-position .ensures) (near-located (b .args .ranges) (b .pre .1 .0) (transcript b) (b .args .chromosome) (getD (now (b .args .positions)) (l .i) 0) (getD (now (b .args .positions)) (l .i) 0 + 1)))
 
 add-i : tie.Need-add-i Inv-loop μ-loop
 add-i c = record { fits = omega arith }
@@ -97,7 +97,7 @@ returns : tie.Need-returns Inv-loop μ-loop
 returns c =
     let b = c .before .before .before .before .before .before .before .before .before .before .before in
     let l = c .before .loop in
-    l .inv .1 ∙ filled-all (words b) 8 (even (transcript b) (b .args .chromosome)) (now (b .args .positions)) (now (b .args .out)) (b .pre .1) (l .i) (omega arith)
+    l .inv .1 ∙ filled-all (words b) 8 (even (b .args .ranges) (transcript b) (b .args .chromosome)) (now (b .args .positions)) (now (b .args .out)) (b .pre .1 .1) (l .i) (omega arith)
 
 pub put-places-spec : {M : Type 1} → statement M
 put-places-spec =

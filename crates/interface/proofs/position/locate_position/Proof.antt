@@ -6,7 +6,6 @@ use denote.Ref.{now}
 use Rattle.transcript.specs.Transcript.{Transcript, lent}
 use Rattle.transcript.specs.Orient.{oriented}
 use Rattle.transcript.proofs.Asking.{base-low}
-use Rattle.footprint.specs.Ranges.{sourceRanges}
 use Rattle.locate.specs.declared.Located.{Located}
 use Rattle.locate.specs.Place.{locate}
 use Rattle.interface.proofs.Positions.{is-15, is-14, is-at}
@@ -18,10 +17,10 @@ abbrev transcript : tie.Start → Transcript
 transcript b = lent (b .args .model) (now (b .args .exon-starts)) (now (b .args .exon-ends)) (now (b .args .seg-phases)) (now (b .args .seg-exons)) (now (b .args .seg-starts)) (now (b .args .seg-ends)) (now (b .args .selenocysteine))
 
 returns : tie.Need-returns
-returns c = let b = c .before .before .before .before .before .before .before .before .before in is-15 (transcript b) (b .args .chromosome) (b .args .p) (b .pre .admitted) (c .if1 .taken)
+returns c = let b = c .before .before .before .before .before .before .before .before .before in is-15 (b .args .ranges) (transcript b) (b .args .chromosome) (b .args .p) (b .pre .admitted) (c .if1 .taken)
 
 returns-2 : tie.Need-returns-2
-returns-2 c = let b = c .before .before .before .before .before .before .before .before .before .before .before in is-14 (transcript b) (b .args .chromosome) (b .args .p) (b .pre .admitted) (c .before .before .if1 .left) (c .if2 .taken)
+returns-2 c = let b = c .before .before .before .before .before .before .before .before .before .before .before in is-14 (b .args .ranges) (transcript b) (b .args .chromosome) (b .args .p) (b .pre .admitted) (c .before .before .if1 .left) (c .if2 .taken)
 
 base-of-requires : tie.Need-base-of-requires
 base-of-requires c κs = search needs
@@ -32,8 +31,8 @@ place-of-base-requires c κs = let b = c .before .before .before .before .before
 returns-3 : tie.Need-returns-3
 returns-3 c =
     let b = c .before .before .before .before .before .before .before .before .before .before .before .before .before in
-    ap Located.At (c .place-of-base .ensures ∙ ap (locate sourceRanges (oriented (transcript b))) (c .before .base-of .ensures))
-    ∙ is-at (transcript b) (b .args .chromosome) (b .args .p) (b .pre .admitted) (c .before .before .before .before .if1 .left) (c .before .before .if2 .left)
+    ap Located.At (c .place-of-base .ensures ∙ ap (locate (b .args .ranges) (oriented (transcript b))) (c .before .base-of .ensures))
+    ∙ is-at (b .args .ranges) (transcript b) (b .args .chromosome) (b .args .p) (b .pre .admitted) (c .before .before .before .before .if1 .left) (c .before .before .if2 .left)
 
 pub locate-position-spec : {M : Type 1} → statement M
 locate-position-spec =
