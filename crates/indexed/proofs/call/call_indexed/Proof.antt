@@ -8,18 +8,22 @@ use Rattle.transcript.specs.Transcript.{lent}
 use Rattle.deck.specs.Table.{transcriptIn}
 use Rattle.deck.proofs.Runs.{lent-in}
 use Rattle.indexed.proofs.IndexedCalls.{row-low, summed-as}
+use native.Mathlib.Omega.{arith}
 use borrow.Author.Needs.{needs}
 use Rattle.indexed.proofs.call.call_indexed.Statement.{statement}
 use Rattle.indexed.proofs.call.call_indexed.Tie as tie
 
 -- the transcript, from the parts that are lent
-is-lent : (c : tie.After-base-part) → let a = c .before .before .before .before .before .before .before .before .before .args in
+is-lent : (c : tie.After-base-part) → let a = c .before .before .before .before .before .before .before .before .before .before .args in
     lent (c .before .before .before .before .before .before .before .model-in .result) (now (c .before .before .before .before .before .before .exon-part .result)) (now (c .before .before .before .before .before .exon-part2 .result)) (now (c .before .before .before .before .segment-phases .result)) (now (c .before .before .before .segment-exons .result)) (now (c .before .before .segment-part .result)) (now (c .before .segment-part2 .result)) (now (c .base-part .result))
     ≡ transcriptIn (now (a .marks)) (now (a .ids)) (now (a .numbers)) (now (a .starts)) (now (a .ends)) (a .k) (a .rows)
 is-lent c =
-    let a = c .before .before .before .before .before .before .before .before .before .args in
+    let a = c .before .before .before .before .before .before .before .before .before .before .args in
     lent-in (now (a .marks)) (now (a .ids)) (now (a .numbers)) (now (a .starts)) (now (a .ends)) (a .k) (a .rows)
     (c .before .before .before .before .before .before .before .model-in .ensures) (c .before .before .before .before .before .before .exon-part .ensures .0) (c .before .before .before .before .before .exon-part2 .ensures .0) (c .before .before .before .before .segment-phases .ensures) (c .before .before .before .segment-exons .ensures) (c .before .before .segment-part .ensures) (c .before .segment-part2 .ensures) (c .base-part .ensures)
+
+source-ranges-requires : tie.Need-source-ranges-requires
+source-ranges-requires c κs = search needs
 
 model-in-requires : tie.Need-model-in-requires
 model-in-requires c κs = search needs
@@ -46,26 +50,27 @@ base-part-requires : tie.Need-base-part-requires
 base-part-requires c κs = search needs
 
 sums-from-requires : tie.Need-sums-from-requires
-sums-from-requires c κs = search needs
+sums-from-requires c κs = let h = c .before .before .before .before .before .before .before .before .before .before .pre .0 in let a = h .0 in let b = h .1 in let d = h .2 in let e = h .3 in let f = h .4 in omega arith
 
 cds-row-requires : tie.Need-cds-row-requires
 cds-row-requires c κs = search needs
 
 sums-from-requires-2 : tie.Need-sums-from-requires-2
-sums-from-requires-2 c κs = let b = c .before .before .before .before .before .before .before .before .before .before .before in rw (c .cds-row .ensures) (row-low (b .args .k) (b .args .rows) (b .pre .0))
+sums-from-requires-2 c κs = let b = c .before .before .before .before .before .before .before .before .before .before .before .before in rw (c .cds-row .ensures) (row-low (b .args .k) (b .args .rows) (b .pre .0))
 
 annotate-summed-requires : tie.Need-annotate-summed-requires
 annotate-summed-requires c κs =
-    let b = c .before .before .before .before .before .before .before .before .before .before .before .before in
+    let b = c .before .before .before .before .before .before .before .before .before .before .before .before .before in
     summed-as (is-lent (c .before .before .before)) (c .before .before .sums-from .ensures) (c .sums-from2 .ensures ∙ ap (λ (x : ℕ). drop x (now (b .args .sums))) (c .before .cds-row .ensures)) (b .pre .1)
 
 returns : tie.Need-returns
-returns c = rw (← is-lent (c .before .before .before .before)) (c .annotate-summed .ensures)
+returns c = rw (← is-lent (c .before .before .before .before)) (rw (c .before .before .before .before .before .before .before .before .before .before .before .before .source-ranges .ensures) at (c .annotate-summed .ensures))
 
 pub call-indexed-spec : {M : Type 1} → statement M
 call-indexed-spec =
     tie.close
     (tie.spec
+    source-ranges-requires
     model-in-requires
     exon-part-requires
     exon-part-requires-2
