@@ -18,7 +18,7 @@ use Rattle.locate.specs.declared.VariantLocation.the-variants.{NonCoding
 use Rattle.locate.specs.Index.{cumulative, indexScalars}
 use Rattle.locate.specs.Place.{isExonicSpliceRegion, exonic}
 use Rattle.locate.specs.Search.{Holds}
-use Rattle.locate.specs.Exonic.{Counts, counts, exonicOf, Countable, headOf}
+use Rattle.locate.specs.Exonic.{counts, exonicOf, Countable, headOf}
 use Rattle.transcript.proofs.Orient.{inside-by}
 use Rattle.transcript.proofs.Listed.{nowhere}
 use Rattle.locate.proofs.Searching.{end-at, end-top}
@@ -27,13 +27,8 @@ use Rattle.locate.proofs.CodingExons.{firstExon}
 use Rattle.locate.proofs.ExonicCounts.{indexCounts, numbers, utr5-is}
 use Rattle.locate.proofs.ExonicPlace.{countable, exonic-same}
 use Rattle.locate.proofs.LentIndex.{sizes-turned, sizes-bound}
+use Rattle.locate.proofs.PlaceFacts.{move, move-place}
 use Rattle.locate.proofs.LentTranscript.{known, ad, exons-are, segments-are, count, ready, coding-is, cds-is, pad-is, pad-2, head-is}
-
-move : (c d : Bool) (n k : Counts) (x y : Interval) (p i : ℕ) → c ≡ d → n ≡ k → x ≡ y → Countable d k y p i → Countable c n x p i
-move c d n k x y p i e f g h = rw (e, f, g) h
-
-move-place : (c d : Bool) (n k : Counts) (x y : Interval) (p i : ℕ) (m : Bool) → c ≡ d → n ≡ k → x ≡ y → exonicOf c n x p i m ≡ exonicOf d k y p i m
-move-place c d n k x y p i m e f g = rw (e, f, g)
 
 module _ (m : TranscriptModel) (ss es ps is gs ge bs : List ℕ) (h : admission (lent m ss es ps is gs ge bs) ≡ 0) where
   abbrev t : Transcript
@@ -90,11 +85,11 @@ module _ (m : TranscriptModel) (ss es ps is gs ge bs : List ℕ) (h : admission 
     module _ (z : 0 < length gs) (a b before utr5 coded pad first : ℕ) (ea : a ≡ orient (m .strand) (cdsStart (m .cds)) (cdsEnd (m .cds)) .start) (eb : b ≡ orient (m .strand) (cdsStart (m .cds)) (cdsEnd (m .cds)) .end)
         (ew : before ≡ basesIn (lentExons (m .strand) ss es) 0 p) (eu : utr5 ≡ basesIn (lentExons (m .strand) ss es) 0 a)
         (el : coded ≡ getD (cumulative 0 (map exonSize (exonsOf gs ge))) (length gs) 0) (ep : pad ≡ padOfPhases ps) (ef : first ≡ headOf is) where
-      cds-same : interval a b ≡ o .cds
-      cds-same = (λ k. interval (ea k) (eb k)) ∙ sym (cds-is m ss es ps is gs ge bs h)
-
       some : true ≡ o .coding
       some = sym (lt-ltb 0 (length gs) z) ∙ coding-is m ss es ps is gs ge bs h
+
+      cds-same : interval a b ≡ o .cds
+      cds-same = (λ k. interval (ea k) (eb k)) ∙ sym (cds-is m ss es ps is gs ge bs h (sym some))
 
       same-counts : counts before utr5 (utr5 + coded) pad first ≡ indexCounts o p i (firstExon t)
       same-counts =
@@ -110,8 +105,8 @@ module _ (m : TranscriptModel) (ss es ps is gs ge bs : List ℕ) (h : admission 
       pub countable-alone : Countable true (counts before utr5 (utr5 + coded) pad first) (interval a b) p i
       countable-alone =
           let e = end-high in let l = d .to in
-          move _ _ _ _ _ _ p i some same-counts cds-same (countable t (known m ss es ps is gs ge bs h) i p (d .index) from to (omega arith) (pad-2 m ss es ps is gs ge bs h))
+          move _ _ _ _ _ _ p i some same-counts (λ c. cds-same) (countable t (known m ss es ps is gs ge bs h) i p (d .index) from to (omega arith) (pad-2 m ss es ps is gs ge bs h))
 
       pub exonic-alone : (mark : Bool) → mark ≡ isExonicSpliceRegion (length ss) i (interval start end) p
           → exonicOf true (counts before utr5 (utr5 + coded) pad first) (interval a b) p i mark ≡ exonic o p i (isExonicSpliceRegion (length (o .exons)) i (interval start end) p)
-      exonic-alone mark em = move-place _ _ _ _ _ _ p i mark some same-counts cds-same ∙ exonic-same t (known m ss es ps is gs ge bs h) i p (d .index) from to mark ∙ marked mark em
+      exonic-alone mark em = move-place _ _ _ _ _ _ p i mark some same-counts (λ c. cds-same) ∙ exonic-same t (known m ss es ps is gs ge bs h) i p (d .index) from to mark ∙ marked mark em

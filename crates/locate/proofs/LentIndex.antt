@@ -39,6 +39,11 @@ use Rattle.locate.proofs.Offset.{sum-last, index-exons, index-cds}
 use Rattle.locate.proofs.CodingExons.{firstExon, first-is, first-holds, last-exon}
 use Rattle.locate.proofs.LentTranscript.{known, ad, exons-are, segments-are, bases-are, count, segment-count, coding-is, cds-is, pad-is, pad-2, head-is}
 
+-- a number that is read only where there is a CDS
+where-coding : (c : Bool) (v w : ℕ) → (c ≡ true → v ≡ w) → cond c v 0 ≡ cond c w 0
+where-coding true v w h = h refl
+where-coding false v w h = refl
+
 -- orienting keeps the size
 turned-size : (σ : Strand) (s e : ℕ) → s < e → e ≤ coordinateLimit → size (orient σ s e) ≡ e - s
 turned-size Plus s e h l = refl
@@ -134,7 +139,7 @@ module _ (m : TranscriptModel) (ss es ps is gs ge bs : List ℕ) (h : admission 
       let i = e ∙ head-is m ss es ps is gs ge bs h in
       let n = count m ss es ps is gs ge bs h in
       let l = k .0 in
-      (omega arith, rw (f, i, ← exons-are m ss es ps is gs ge bs h) (inside-by (o .cds .start) (getD (o .exons) (firstExon t) nowhere) (k .1) (k .2)))
+      (omega arith, rw (f, ← cds-is m ss es ps is gs ge bs h (sym (coding-is m ss es ps is gs ge bs h) ∙ c), i, ← exons-are m ss es ps is gs ge bs h) (inside-by (o .cds .start) (getD (o .exons) (firstExon t) nowhere) (k .1) (k .2)))
 
   -- the exon of the last coding base
   pub last-bound : firstExon (lent m ss es ps is gs ge bs) + length gs ≤ 65536
@@ -170,7 +175,7 @@ module _ (m : TranscriptModel) (ss es ps is gs ge bs : List ℕ) (h : admission 
       let n = sym (count m ss es ps is gs ge bs h) in
       let g = sym (segment-count m ss es ps is gs ge bs h) in
       let d = total ys qy in
-      let x : u ≡ indexScalars o .«utr5_exonic_len» = eu ∙ (λ k. cond (c k) (qx .1 k + basesIn (sym (exons-are m ss es ps is gs ge bs h) k) 0 (sym (cds-is m ss es ps is gs ge bs h) k .start)) 0) ∙ ap (λ (v : ℕ). cond (o .coding) v 0) (zero-add (basesIn (o .exons) 0 (o .cds .start))) in
+      let x : u ≡ indexScalars o .«utr5_exonic_len» = eu ∙ (λ k. cond (c k) (qx .1 k + basesIn (sym (exons-are m ss es ps is gs ge bs h) k) 0 (orient (m .strand) (cdsStart (m .cds)) (cdsEnd (m .cds)) .start)) 0) ∙ where-coding (o .coding) _ _ (λ y. zero-add _ ∙ ap (λ (v : Interval). basesIn (o .exons) 0 (v .start)) (sym (cds-is m ss es ps is gs ge bs h y))) in
       let a = ef ∙ head-is m ss es ps is gs ge bs h ∙ first-is t w in
       let z : l ≡ indexScalars o .«cds_end_exon_idx» = el ∙ ap (λ (b : Bool). cond b (f + length gs - 1) 0) c ∙ ending t w f (length gs) (ef ∙ head-is m ss es ps is gs ge bs h) g in
       let y = es′ ∙ ap (λ (v : List Interval). any isFrameshiftGap (gaps v)) (sym (exons-are m ss es ps is gs ge bs h)) in

@@ -2,6 +2,7 @@
 -- Assumes nothing.
 use Prim.Native.Nat.{ℕ, _-_, _≤_}
 use mathlib.Core.Path.{_≡_, refl, sym, _∙_, ap}
+use mathlib.Core.Bool.{true}
 use mathlib.Core.List.{List, [], _∷_, map}
 use native.Mathlib.Omega.{arith}
 use lib.ListN.{length}
@@ -14,6 +15,7 @@ use Rattle.transcript.specs.Admission.{admission}
 use Rattle.transcript.specs.Lent.{padOfPhases, listedCuts, lentExons}
 use Rattle.locate.specs.Search.{Ready}
 use Rattle.locate.specs.Exonic.{headOf}
+use Rattle.transcript.proofs.Orient.{bounds-both}
 use Rattle.transcript.proofs.Facts.{Facts}
 use Rattle.transcript.proofs.Admitted.{facts}
 use Rattle.transcript.proofs.Listed.{oriented-length}
@@ -60,9 +62,9 @@ module _ (m : TranscriptModel) (ss es ps is gs ge bs : List ℕ) (h : admission 
   unfolding oriented
   coding-is = sym (ap (λ (t : Transcript). oriented t .coding) (ad .same) ∙ ad .lent-are .coding)
 
-  pub cds-is : oriented (lent m ss es ps is gs ge bs) .cds ≡ orient (m .strand) (cdsStart (m .cds)) (cdsEnd (m .cds))
+  pub cds-is : oriented (lent m ss es ps is gs ge bs) .coding ≡ true → oriented (lent m ss es ps is gs ge bs) .cds ≡ orient (m .strand) (cdsStart (m .cds)) (cdsEnd (m .cds))
   unfolding oriented
-  cds-is = refl
+  cds-is c = bounds-both (m .strand) (m .cds) (known .bounds ∙ c)
 
   pub pad-is : oriented (lent m ss es ps is gs ge bs) .pad ≡ padOfPhases ps
   unfolding oriented

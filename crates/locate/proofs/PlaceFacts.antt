@@ -1,12 +1,13 @@
 -- A base of an exon of an admitted transcript whose lists are lent apart, in the terms in which the code reads its place.
 -- Assumes nothing.
 use Prim.Native.Nat.{ℕ, _+_, _-_, _≤_, _<_}
-use mathlib.Core.Path.{_≡_, sym, _∙_, ap}
-use mathlib.Core.Bool.{Bool}
+use mathlib.Core.Path.{_≡_, refl, sym, _∙_, ap}
+use mathlib.Core.Bool.{Bool, true, false}
 use mathlib.Core.List.{List, map}
 use native.Mathlib.Omega.{arith}
 use lib.ListN.{length, getD}
 use lib.Dec.{ltb}
+use Rattle.common.proofs.TestParts.{true-false}
 use Rattle.transcript.specs.declared.TranscriptModel.{TranscriptModel}
 use Rattle.transcript.specs.Limits.{top}
 use Rattle.transcript.specs.Transcript.{lent, cdsStart, cdsEnd}
@@ -32,11 +33,30 @@ abbrev pub codeCounts : IndexScalars → ℕ → Counts
 codeCounts x before =
     counts before (x .«utr5_exonic_len») (x .«utr5_exonic_len» + (x .«total_cds_length» - x .«cds_start_pad»)) (x .«cds_start_pad») (x .«cds_start_exon_idx»)
 
-move : (c d : Bool) (n k : Counts) (x y : Interval) (p i : ℕ) → c ≡ d → n ≡ k → x ≡ y → Countable d k y p i → Countable c n x p i
-move c d n k x y p i e f g h = rw (e, f, g) h
+-- without a CDS its edges take no part
+edges : (c : Bool) (n : Counts) (x y : Interval) (p i : ℕ) → (c ≡ true → x ≡ y) → Countable c n y p i → Countable c n x p i
+edges true n x y p i g h = rw (g refl) h
+edges false n x y p i g h = record {
+  before-low = h .before-low;
+  utr5-low = h .utr5-low;
+  end-low = h .end-low;
+  pad-low = h .pad-low;
+  five = λ c. absurd (true-false (sym c));
+  three = λ c. absurd (true-false (sym c));
+  cds-from = λ c. absurd (true-false (sym c));
+  from-first = λ c. absurd (true-false (sym c));
+}
 
-move-place : (c d : Bool) (n k : Counts) (x y : Interval) (p i : ℕ) (m : Bool) → c ≡ d → n ≡ k → x ≡ y → exonicOf c n x p i m ≡ exonicOf d k y p i m
-move-place c d n k x y p i m e f g = rw (e, f, g)
+edges-place : (c : Bool) (n : Counts) (x y : Interval) (p i : ℕ) (m : Bool) → (c ≡ true → x ≡ y) → exonicOf c n x p i m ≡ exonicOf c n y p i m
+unfolding exonicOf
+edges-place true n x y p i m g = rw (g refl)
+edges-place false n x y p i m g = refl
+
+pub move : (c d : Bool) (n k : Counts) (x y : Interval) (p i : ℕ) → c ≡ d → n ≡ k → (c ≡ true → x ≡ y) → Countable d k y p i → Countable c n x p i
+move c d n k x y p i e f g h = edges c n x y p i g (rw (e, f) h)
+
+pub move-place : (c d : Bool) (n k : Counts) (x y : Interval) (p i : ℕ) (m : Bool) → c ≡ d → n ≡ k → (c ≡ true → x ≡ y) → exonicOf c n x p i m ≡ exonicOf d k y p i m
+move-place c d n k x y p i m e f g = edges-place c n x y p i m g ∙ rw (e, f)
 
 module _ (m : TranscriptModel) (ss es ps is gs ge bs : List ℕ) (h : admission (lent m ss es ps is gs ge bs) ≡ 0) where
   -- the last exon ends within the coordinates
@@ -76,8 +96,8 @@ module _ (m : TranscriptModel) (ss es ps is gs ge bs : List ℕ) (h : admission 
           (λ k. codeCounts (q k) (w k)) ∙ ap (indexCounts (oriented (lent m ss es ps is gs ge bs)) p i) (sym (first-is (lent m ss es ps is gs ge bs) (known m ss es ps is gs ge bs h)))
 
       module _ (a b before : ℕ) (ea : a ≡ orient (m .strand) (cdsStart (m .cds)) (cdsEnd (m .cds)) .start) (eb : b ≡ orient (m .strand) (cdsStart (m .cds)) (cdsEnd (m .cds)) .end) (f : before ≡ getD sums i 0 + (p - start)) where
-        cds-same : interval a b ≡ oriented (lent m ss es ps is gs ge bs) .cds
-        cds-same = (λ k. interval (ea k) (eb k)) ∙ sym (cds-is m ss es ps is gs ge bs h)
+        cds-same : ltb 0 (length gs) ≡ true → interval a b ≡ oriented (lent m ss es ps is gs ge bs) .cds
+        cds-same c = (λ k. interval (ea k) (eb k)) ∙ sym (cds-is m ss es ps is gs ge bs h (sym (coding-is m ss es ps is gs ge bs h) ∙ c))
 
         from : getD (oriented (lent m ss es ps is gs ge bs) .exons) i nowhere .start ≤ p
         from = let s = d .start-is in let l = d .from in omega arith

@@ -12,7 +12,6 @@ use Rattle.common.specs.Lists.{any}
 use Rattle.common.proofs.TestParts.{and-true, or-false, and-not-false, not-and-false, on-test, true-false, refuse-none, or-else-none}
 use Rattle.common.proofs.Lists.{any-none}
 use Rattle.transcript.specs.declared.Strand.{Strand}
-use Rattle.transcript.specs.declared.Strand.the-variants.{Plus, Minus}
 use Rattle.transcript.specs.declared.Exon.{Exon}
 use Rattle.transcript.specs.declared.CdsSegment.{CdsSegment}
 use Rattle.transcript.specs.declared.CdsBounds.{CdsBounds}
@@ -23,7 +22,7 @@ use Rattle.transcript.specs.Orient.{Interval, orient, orientExon, orient
 use Rattle.transcript.specs.Bases.{insideAny, firstStart, endAfter, lastEnd}
 use Rattle.transcript.specs.Admission.{badCounts, badExon, badSegment, overLimit, badCoordinates, ascending, badOrder, badBounds, badCds, badPhase, badPad, segmentFault, badScalars, badCdsBounds, lacksFirst, lacksLast, badSegments, badSelenocysteine, admission, Admitted}
 use Rattle.transcript.specs.Cuts.{cutOf, cuts, sameCuts}
-use Rattle.transcript.proofs.Orient.{orient-some, orient-high}
+use Rattle.transcript.proofs.Orient.{orient-some, orient-high, bounds-some, bounds-high, bounds-none}
 use Rattle.transcript.proofs.Ascends.{Ascends}
 use Rattle.transcript.proofs.Cuts.{cutBases, same-cuts, cuts-none}
 use Rattle.transcript.proofs.Facts.{Facts}
@@ -158,11 +157,6 @@ pub empty-list : {A : Type 0} (xs : List A) → not (isEmpty xs) ≡ false → x
 empty-list [] h = refl
 empty-list (x ∷ xs) h = absurd (true-false h)
 
-nothing-cut : (σ : Strand) (b : CdsBounds) → hasBounds b ≡ false → orient σ (cdsStart b) (cdsEnd b) .end ≤ orient σ (cdsStart b) (cdsEnd b) .start
-nothing-cut Plus Neither h = omega arith
-nothing-cut Minus Neither h = omega arith
-nothing-cut σ (Both s e) h = absurd (true-false h)
-
 cut-all : (t : Transcript) → badCds t ≡ false → badSegments t (oriented t) ≡ false → map (cutOf (t .model .strand)) (t .segments) ≡ cuts (oriented t .cds) 0 (oriented t .exons)
 unfolding oriented
 cut-all t b h =
@@ -170,7 +164,7 @@ cut-all t b h =
     (λ c. same-cuts (map (cutOf (t .model .strand)) (t .segments)) (cuts (oriented t .cds) 0 (oriented t .exons))
     (and-not-false (oriented t .coding) (sameCuts (map (cutOf (t .model .strand)) (t .segments)) (cuts (oriented t .cds) 0 (oriented t .exons))) h c))
     (λ c. ap (map (cutOf (t .model .strand))) (empty-list (t .segments) c)
-    ∙ sym (cuts-none (oriented t .cds) 0 (oriented t .exons) (nothing-cut (t .model .strand) (t .model .cds) (cds-bounds (t .model .cds) (oriented t .coding) b .0 ∙ c))))
+    ∙ sym (cuts-none (oriented t .cds) 0 (oriented t .exons) (bounds-none (t .model .strand) (t .model .cds) (cds-bounds (t .model .cds) (oriented t .coding) b .0 ∙ c))))
 
 -- the bases of the segments' cuts are the oriented segments
 cut-segments : (σ : Strand) (gs : List CdsSegment) → map cutBases (map (cutOf σ) gs) ≡ map (orientSegment σ) gs
@@ -206,8 +200,8 @@ facts t h =
       begins = eqb-true _ _ (not-false (eqb (orient (t .model .strand) (t .model .«tx_start») (t .model .«tx_end») .start) (firstStart (oriented t .exons))) (b .0));
       finishes = eqb-true _ _ (not-false (eqb (orient (t .model .strand) (t .model .«tx_start») (t .model .«tx_end») .end) (lastEnd (oriented t .exons))) (b .1));
       bounds = d .0;
-      cds-some = λ e. orient-some (t .model .strand) (cdsStart (t .model .cds)) (cdsEnd (t .model .cds)) (c .5) (d .1 e);
-      cds-high = orient-high (t .model .strand) (cdsStart (t .model .cds)) (cdsEnd (t .model .cds)) (c .5);
+      cds-some = λ e. bounds-some (t .model .strand) (t .model .cds) (c .5) (d .1 e);
+      cds-high = bounds-high (t .model .strand) (t .model .cds) (c .5);
       phases = r .row-6;
       pad-none = λ e. eqb-true (oriented t .pad) 0 (not-and-false (eqb (oriented t .pad) 0) (oriented t .startComplete) (r .row-7) e);
       indexes = r .row-8;

@@ -1,10 +1,15 @@
 -- Refusals 10, 11 and 12, a case at a time.
 -- Assumes nothing.
 use Prim.Native.Nat.{_-_}
-use mathlib.Core.Path.{_≡_}
+use mathlib.Core.Path.{_≡_, refl, sym}
 use mathlib.Core.Bool.{Bool, true, false}
 use mathlib.Core.List.{List}
-use Rattle.transcript.specs.Orient.{Interval}
+use Rattle.common.proofs.TestParts.{true-false}
+use Rattle.transcript.specs.declared.Strand.{Strand}
+use Rattle.transcript.specs.declared.CdsBounds.{CdsBounds}
+use Rattle.transcript.specs.declared.CdsBounds.the-variants.{Neither, Both}
+use Rattle.transcript.specs.Transcript.{cdsStart, cdsEnd, hasBounds}
+use Rattle.transcript.specs.Orient.{Interval, orient, orientBounds}
 use Rattle.transcript.specs.Bases.{insideAny}
 use Rattle.transcript.specs.Cuts.{Cut, cuts, sameCuts}
 use Rattle.transcript.specs.Lent.{cdsFault}
@@ -23,3 +28,10 @@ module _ (coding : Bool) (cds : Interval) (xs : List Interval) (gs : List Cut) (
 
       pub lacks-none : sameCuts gs (cuts cds 0 xs) ≡ true → 0 ≡ cdsFault coding cds xs gs
       lacks-none s = rw (c, a, b, s)
+
+-- without bounds there is no CDS, and its edges take no part
+pub fault-bounds : (coding : Bool) (σ : Strand) (b : CdsBounds) (xs : List Interval) (gs : List Cut) → hasBounds b ≡ coding
+    → cdsFault coding (orient σ (cdsStart b) (cdsEnd b)) xs gs ≡ cdsFault coding (orientBounds σ b) xs gs
+fault-bounds true σ Neither xs gs h = absurd (true-false (sym h))
+fault-bounds false σ Neither xs gs h = refl
+fault-bounds coding σ (Both s e) xs gs h = refl

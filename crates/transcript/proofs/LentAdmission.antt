@@ -15,7 +15,7 @@ use Rattle.transcript.specs.declared.TranscriptModel.{TranscriptModel}
 use Rattle.transcript.specs.declared.Admission.{Admission}
 use Rattle.transcript.specs.Limits.{maxExons, coordinateLimit}
 use Rattle.transcript.specs.Transcript.{Transcript, exonsOf, segmentsOf, evenLists, lent, cdsStart, cdsEnd}
-use Rattle.transcript.specs.Orient.{Interval, orient, orientExon, oriented}
+use Rattle.transcript.specs.Orient.{Interval, orient, orientBounds, orientExon, oriented}
 use Rattle.transcript.specs.Bases.{insideAny}
 use Rattle.transcript.specs.Admission.{badNumbers, badCounts, badExon, overLimit, badScalars, badCoordinates, ascending, notOuter, badCdsBounds, indexFault, inNone, admission}
 use Rattle.transcript.specs.Cuts.{cuts, sameCuts}
@@ -40,7 +40,7 @@ module _ (m : TranscriptModel) (ss es ps is gs ge bs : List ℕ) where
   exons = map (orientExon (m .strand)) (exonsOf ss es)
 
   abbrev cds : Interval
-  cds = orient (m .strand) (cdsStart (m .cds)) (cdsEnd (m .cds))
+  cds = orientBounds (m .strand) (m .cds)
 
   -- the rows as the code tests them: from the named one on
   abbrev pub from-13 : ℕ

@@ -1,16 +1,21 @@
 -- What orienting keeps: order, bounds, and which bases an interval holds.
 -- Assumes nothing.
 use Prim.Native.Nat.{ℕ, _-_, _≤_, _<_}
-use mathlib.Core.Path.{_≡_, refl}
-use mathlib.Core.Bool.{true}
+use mathlib.Core.Path.{_≡_, refl, sym}
+use mathlib.Core.Bool.{Bool, true, false}
 use native.Mathlib.Omega.{arith}
 use lib.Dec.{leb, ltb}
 use borrow.Author.Tests.{ltb-true, leb-true, lt-ltb, le-leb}
-use Rattle.common.proofs.TestParts.{and-true, same-test}
+use Rattle.common.specs.Lists.{countBelow}
+use Rattle.common.proofs.TestParts.{and-true, same-test, true-false}
+use Rattle.common.proofs.Counting.{count-reflected}
 use Rattle.transcript.specs.declared.Strand.{Strand}
 use Rattle.transcript.specs.declared.Strand.the-variants.{Plus, Minus}
+use Rattle.transcript.specs.declared.CdsBounds.{CdsBounds}
+use Rattle.transcript.specs.declared.CdsBounds.the-variants.{Neither, Both}
 use Rattle.transcript.specs.Limits.{top, coordinateLimit}
-use Rattle.transcript.specs.Orient.{Interval, interval, orient, orientBase}
+use Rattle.transcript.specs.Transcript.{cdsStart, cdsEnd, hasBounds}
+use Rattle.transcript.specs.Orient.{Interval, interval, orient, orientBase, orientBounds}
 use Rattle.transcript.specs.Bases.{inside}
 
 module _ (σ : Strand) (s e : ℕ) (l : e ≤ coordinateLimit) where
@@ -28,6 +33,23 @@ module _ (σ : Strand) (s e : ℕ) (l : e ≤ coordinateLimit) where
       high : (σ : Strand) → orient σ s e .end ≤ top
       high Plus = omega arith
       high Minus = omega arith
+
+-- the same of a CDS; without bounds it has no bases
+pub bounds-both : (σ : Strand) (b : CdsBounds) → hasBounds b ≡ true → orientBounds σ b ≡ orient σ (cdsStart b) (cdsEnd b)
+bounds-both σ Neither h = absurd (true-false (sym h))
+bounds-both σ (Both s e) h = refl
+
+pub bounds-some : (σ : Strand) (b : CdsBounds) → cdsEnd b ≤ coordinateLimit → cdsStart b < cdsEnd b → orientBounds σ b .start < orientBounds σ b .end
+bounds-some σ Neither l h = absurd (omega arith)
+bounds-some σ (Both s e) l h = orient-some σ s e l h
+
+pub bounds-high : (σ : Strand) (b : CdsBounds) → cdsEnd b ≤ coordinateLimit → orientBounds σ b .end ≤ top
+bounds-high σ Neither l = omega arith
+bounds-high σ (Both s e) l = orient-high σ s e l
+
+pub bounds-none : (σ : Strand) (b : CdsBounds) → hasBounds b ≡ false → orientBounds σ b .end ≤ orientBounds σ b .start
+bounds-none σ Neither h = omega arith
+bounds-none σ (Both s e) h = absurd (true-false h)
 
 -- the base in the interval, as numbers
 pub inside-start : (p : ℕ) (x : Interval) → inside p x ≡ true → x .start ≤ p
@@ -50,3 +72,8 @@ inside-orient Minus s e p l =
     (λ h. (let a = inside-start p (interval s e) h in
     let b = inside-end p (interval s e) h in
     inside-by (top - 1 - p) (interval (top - e) (top - s)) (omega arith) (omega arith)))
+
+-- as many oriented bases pass a test as bases do whose oriented ones pass it
+pub count-oriented : (σ : Strand) (f : ℕ → Bool) → countBelow (λ p. f (orientBase σ p)) top ≡ countBelow f top
+count-oriented Plus f = refl
+count-oriented Minus f = count-reflected f top

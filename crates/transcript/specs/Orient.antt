@@ -5,10 +5,12 @@ use mathlib.Core.Bool.{Bool, not}
 use mathlib.Core.List.{List, map}
 use Rattle.transcript.specs.declared.Strand.{Strand}
 use Rattle.transcript.specs.declared.Strand.the-variants.{Plus, Minus}
+use Rattle.transcript.specs.declared.CdsBounds.{CdsBounds}
+use Rattle.transcript.specs.declared.CdsBounds.the-variants.{Neither, Both}
 use Rattle.transcript.specs.declared.Exon.{Exon}
 use Rattle.transcript.specs.declared.CdsSegment.{CdsSegment}
 use Rattle.transcript.specs.Limits.{top}
-use Rattle.transcript.specs.Transcript.{Transcript, cdsStart, cdsEnd, padOf, isEmpty}
+use Rattle.transcript.specs.Transcript.{Transcript, padOf, isEmpty}
 
 -- the bases from `start` to just before `end`, in oriented coordinates
 pub record Interval : Type 0 where
@@ -27,6 +29,11 @@ orientBase Minus p = top - 1 - p
 abbrev pub orient : Strand → ℕ → ℕ → Interval
 orient Plus s e = interval s e
 orient Minus s e = interval (top - e) (top - s)
+
+-- the CDS, oriented; without bounds it has no bases on either strand
+abbrev pub orientBounds : Strand → CdsBounds → Interval
+orientBounds strand Neither = interval 0 0
+orientBounds strand (Both s e) = orient strand s e
 
 abbrev pub orientExon : Strand → Exon → Interval
 orientExon strand x = orient strand (x .«genomic_start») (x .«genomic_end»)
@@ -48,7 +55,7 @@ unfoldable pub oriented : Transcript → Oriented
 oriented t = record {
   exons = map (orientExon (t .model .strand)) (t .exons);
   coding = not (isEmpty (t .segments));
-  cds = orient (t .model .strand) (cdsStart (t .model .cds)) (cdsEnd (t .model .cds));
+  cds = orientBounds (t .model .strand) (t .model .cds);
   segments = map (orientSegment (t .model .strand)) (t .segments);
   pad = padOf (t .segments);
   startComplete = t .model .«cds_start_complete»;

@@ -10,12 +10,13 @@ use denote.Ref.{now}
 use lib.Dec.{ltb}
 use lib.ListN.{length}
 use Rattle.transcript.specs.declared.TranscriptModel.{TranscriptModel}
-use Rattle.transcript.specs.Transcript.{Transcript, exonsOf, evenLists, lent, cdsStart, cdsEnd}
+use Rattle.transcript.specs.Transcript.{Transcript, exonsOf, evenLists, lent}
 use Rattle.transcript.specs.Admission.{admission}
-use Rattle.transcript.specs.Orient.{orient, orientExon}
+use Rattle.transcript.specs.Orient.{orientBounds, orientExon}
 use Rattle.transcript.specs.Lent.{cdsFault, listedCuts}
 use Rattle.transcript.proofs.LentSegments.{Even}
 use Rattle.transcript.proofs.Admitted.{cds-bounds}
+use Rattle.transcript.proofs.CdsFault.{fault-bounds}
 use Rattle.transcript.proofs.LentAdmission.{from-1, from-2, from-3, from-4, from-5, from-6, from-7, from-8, from-10, from-13, even-parts, Counted, counted, Bounded, bounded, lent-uneven, lent-admission, go, stop, go-else, stop-else, refused, admitted}
 use borrow.Author.Needs.{needs}
 use Rattle.transcript.proofs.admit.Statement.{statement}
@@ -119,8 +120,13 @@ else9 c = let b = at9 c in go-else _ (last b) (else8 (c .before .before)) (sym (
 
 -- the fault of the CDS, at the bounds that the model has
 cut : (c : tie.After-cds-fault) → let b = at9 (c .before .before .before) in
-    c .cds-fault .result ≡ cdsFault (ltb 0 (length (now (b .args .seg-starts)))) (orient (b .args .model .strand) (cdsStart (b .args .model .cds)) (cdsEnd (b .args .model .cds))) (map (orientExon (b .args .model .strand)) (exonsOf (now (b .args .exon-starts)) (now (b .args .exon-ends)))) (listedCuts (b .args .model .strand) (now (b .args .seg-exons)) (now (b .args .seg-starts)) (now (b .args .seg-ends)))
-cut c = rw (c .before .before .start-or-zero .ensures, c .before .end-or-zero .ensures) at (c .cds-fault .ensures)
+    c .cds-fault .result ≡ cdsFault (ltb 0 (length (now (b .args .seg-starts)))) (orientBounds (b .args .model .strand) (b .args .model .cds)) (map (orientExon (b .args .model .strand)) (exonsOf (now (b .args .exon-starts)) (now (b .args .exon-ends)))) (listedCuts (b .args .model .strand) (now (b .args .seg-exons)) (now (b .args .seg-starts)) (now (b .args .seg-ends)))
+cut c =
+    let b = at9 (c .before .before .before) in
+    let k = c .before .before .before .before .before .before .before .before .before in
+    let d = cds-bounds (b .args .model .cds) (ltb 0 (length (now (b .args .seg-starts)))) (sym (k .before .bad-cds .ensures) ∙ k .if6 .left) in
+    (rw (c .before .before .start-or-zero .ensures, c .before .end-or-zero .ensures) at (c .cds-fault .ensures))
+    ∙ fault-bounds (ltb 0 (length (now (b .args .seg-starts)))) (b .args .model .strand) (b .args .model .cds) (map (orientExon (b .args .model .strand)) (exonsOf (now (b .args .exon-starts)) (now (b .args .exon-ends)))) (listedCuts (b .args .model .strand) (now (b .args .seg-exons)) (now (b .args .seg-starts)) (now (b .args .seg-ends))) (d .0)
 
 else10 : (c : tie.Else10) → let b = at10 c in Left b (on b from-13)
 else10 c = let b = at10 c in go-else _ (on b from-13) (else9 (c .before .before .before .before)) (sym (cut (c .before)) ∙ c .if10 .left)
