@@ -1,55 +1,20 @@
--- What is claimed of the definitions: where coding bases are, what an offset counts, and what a longer transcript keeps.
-use Prim.Native.Nat.{ℕ, _+_, _-_, _≤_}
-use mathlib.Core.Bool.{Bool, true, _&&_}
-use mathlib.Core.List.{List}
+-- What is claimed of two transcripts: what a longer one keeps of a shorter one.
+use Prim.Native.Nat.{ℕ, _+_, _-_}
+use mathlib.Core.Bool.{Bool, true}
 use mathlib.Core.Path.{_≡_}
 use lib.ListN.{length}
-use lib.Dec.{leb, ltb}
-use Rattle.common.specs.Lists.{any, countBelow}
-use Rattle.transcript.specs.declared.Strand.{Strand}
-use Rattle.transcript.specs.declared.Strand.the-variants.{Plus, Minus}
-use Rattle.transcript.specs.declared.CdsSegment.{CdsSegment}
-use Rattle.locate.specs.declared.VariantLocation.{VariantLocation}
-use Rattle.locate.specs.declared.Located.{Located}
 use Rattle.footprint.specs.declared.Ranges.{Ranges}
-use Rattle.transcript.specs.Limits.{coordinateLimit}
-use Rattle.transcript.specs.Transcript.{Transcript, padOf}
+use Rattle.transcript.specs.Transcript.{Transcript}
 use Rattle.transcript.specs.Orient.{orientBase, oriented}
 use Rattle.transcript.specs.Bases.{firstStart, lastEnd, totalSize}
 use Rattle.transcript.specs.Admission.{Admitted}
-use Rattle.locate.specs.PlaceKind.{isCdsExon, placeOffset}
-use Rattle.locate.specs.Query.{locateVariant, locatePosition}
+use Rattle.locate.specs.Query.{locateVariant}
 use Rattle.consequence.specs.declared.Call.{Call}
 use Rattle.consequence.specs.Window.{Window}
 use Rattle.consequence.specs.Call.{annotateSnv}
 use Rattle.demands.specs.Gains.{placeMark, callMark, MarkKept, TermsKept}
 use Rattle.demands.specs.Longer.{Longer, insideTranscript, nearEnds}
 use Rattle.demands.specs.Carry.{Added, carryLocated, carryCalled}
-
--- some segment holds the base, in genomic coordinates
-abbrev pub isCoding : List CdsSegment → ℕ → Bool
-isCoding gs p = any (λ (g : CdsSegment). leb (g .«genomic_start») p && ltb p (g .«genomic_end»)) gs
-
--- q comes before p in strand order
-abbrev pub isBefore : Strand → ℕ → ℕ → Bool
-isBefore Plus p q = ltb q p
-isBefore Minus p q = ltb p q
-
--- demand 2: a place is CdsExon exactly where a segment holds the base
-abbrev pub CodingPlaces : Type 0
-CodingPlaces =
-    (r : Ranges) (t : Transcript) (chromosome p : ℕ) (place : VariantLocation) →
-    locatePosition r t chromosome p ≡ Located.At place →
-    isCdsExon place ≡ isCoding (t .segments) p
-
--- demand 2: the padded offset is the pad and the number of coding bases before the base in strand order
-abbrev pub OffsetsCount : Type 0
-OffsetsCount =
-    (r : Ranges) (t : Transcript) (chromosome p n : ℕ) (place : VariantLocation) →
-    locatePosition r t chromosome p ≡ Located.At place →
-    isCdsExon place ≡ true →
-    coordinateLimit ≤ n →
-    placeOffset place ≡ padOf (t .segments) + countBelow (λ q. isBefore (t .model .strand) p q && isCoding (t .segments) q) n
 
 module _ (S L : Transcript) (x : Longer S L) (p : ℕ) where
   -- the mark is gained within 3 bases of an outer end of the longer's inner exons, beyond which an exon was added

@@ -21,3 +21,4 @@ pub mod PlaceCases
 pub mod VariantCases
 pub mod BasesBefore
 pub mod AloneFacts
+pub mod CodingBases

@@ -10,3 +10,4 @@ pub mod Search
 pub mod Sums
 pub mod Coded
 pub mod Exonic
+pub mod CodingBases
