@@ -9,3 +9,4 @@ pub mod Preparing
 pub mod Calling
 pub mod Numbering
 pub mod BesideSpills
+pub mod CallPlaces

@@ -8,3 +8,4 @@ pub mod Numbers
 pub mod AtPlace
 pub mod Segments
 pub mod Prepared
+pub mod CallPlaces
