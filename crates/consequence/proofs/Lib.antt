@@ -10,3 +10,5 @@ pub mod Calling
 pub mod Numbering
 pub mod BesideSpills
 pub mod CallPlaces
+pub mod CodingPositions
+pub mod CodonHolds

@@ -9,3 +9,4 @@ pub mod AtPlace
 pub mod Segments
 pub mod Prepared
 pub mod CallPlaces
+pub mod CodingPositions

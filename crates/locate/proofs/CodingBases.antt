@@ -22,8 +22,6 @@ use Rattle.transcript.specs.Admission.{badSegment, admission, Admitted}
 use Rattle.transcript.specs.Question.{placeRefusal, questionRefusal}
 use Rattle.transcript.proofs.Orient.{inside-end, inside-orient, orient-high, count-oriented}
 use Rattle.transcript.proofs.Ascends.{Ascends}
-use Rattle.transcript.proofs.Cuts.{cuts-ascend}
-use Rattle.transcript.proofs.Facts.{Facts}
 use Rattle.transcript.proofs.Admitted.{facts}
 use Rattle.footprint.specs.Ranges.{Ranges}
 use Rattle.locate.specs.declared.VariantLocation.{VariantLocation}
@@ -33,6 +31,7 @@ use Rattle.locate.specs.PlaceKind.{isCdsExon, placeOffset}
 use Rattle.locate.specs.Query.{locateVariant}
 use Rattle.locate.specs.CodingBases.{isCoding, isBefore, codingBefore, CodingPlaces, OffsetsCount}
 use Rattle.locate.proofs.Coding.{coding-place, coding-offset}
+use Rattle.locate.proofs.CodingExons.{segments-ascend}
 use Rattle.locate.proofs.Cdna.{cdna-of-offset}
 use Rattle.locate.proofs.CountedBases.{basesIn-counts}
 
@@ -49,7 +48,7 @@ coding-oriented σ (g ∷ gs) p h =
     rw (inside-orient σ (g .«genomic_start») (g .«genomic_end») p (segment-low g (n .0)), coding-oriented σ gs p (n .1))
 
 -- coding bases stand below the limit, and the oriented segments end below the top
-coding-low : (gs : List CdsSegment) (p : ℕ) → any badSegment gs ≡ false → isCoding gs p ≡ true → p < coordinateLimit
+pub coding-low : (gs : List CdsSegment) (p : ℕ) → any badSegment gs ≡ false → isCoding gs p ≡ true → p < coordinateLimit
 unfolding any
 coding-low [] p h c = absurd (true-false (sym c))
 coding-low (g ∷ gs) p h c =
@@ -58,7 +57,7 @@ coding-low (g ∷ gs) p h c =
     (λ i. (let a = inside-end p (interval (g .«genomic_start») (g .«genomic_end»)) i in let b = segment-low g (n .0) in omega arith))
     (λ i. coding-low gs p (n .1) (rw i at c))
 
-segments-high : (σ : Strand) (e : ℕ) (gs : List CdsSegment) → any badSegment gs ≡ false → e ≤ top → endAfter e (map (orientSegment σ) gs) ≤ top
+pub segments-high : (σ : Strand) (e : ℕ) (gs : List CdsSegment) → any badSegment gs ≡ false → e ≤ top → endAfter e (map (orientSegment σ) gs) ≤ top
 unfolding endAfter
 segments-high σ e [] h l = l
 segments-high σ e (g ∷ gs) h l =
@@ -103,8 +102,7 @@ module _ (t : Transcript) (ad : Admitted t) (p : ℕ) where
   unfolding oriented
   bases-before n l =
       let f = facts t ad in
-      let a : Ascends 0 (oriented t .segments) = rw (f .segments) (cuts-ascend (oriented t .cds) 0 0 (oriented t .exons) (f .order)) in
-      before-all (t .model .strand) (t .segments) p n (f .segment-edges) a l
+      before-all (t .model .strand) (t .segments) p n (f .segment-edges) (segments-ascend t f) l
 
 -- its place
 module _ (t : Transcript) (ad : Admitted t) (p : ℕ) (r : Ranges) where

@@ -82,7 +82,7 @@ abbrev pub firstExon : Transcript → ℕ
 firstExon t = firstIndex (map (cutOf (t .model .strand)) (t .segments))
 
 module _ (t : Transcript) (f : Facts t) where
-  segments-ascend : Ascends 0 (oriented t .segments)
+  pub segments-ascend : Ascends 0 (oriented t .segments)
   segments-ascend = rw (f .segments) (cuts-ascend (oriented t .cds) 0 0 (oriented t .exons) (f .order))
 
   -- a base of the CDS that an exon holds is a coding one

@@ -73,6 +73,11 @@ inside-orient Minus s e p l =
     let b = inside-end p (interval s e) h in
     inside-by (top - 1 - p) (interval (top - e) (top - s)) (omega arith) (omega arith)))
 
+-- oriented twice a base is itself
+pub orient-twice : (σ : Strand) (p : ℕ) → p < top → orientBase σ (orientBase σ p) ≡ p
+orient-twice Plus p l = refl
+orient-twice Minus p l = omega arith
+
 -- as many oriented bases pass a test as bases do whose oriented ones pass it
 pub count-oriented : (σ : Strand) (f : ℕ → Bool) → countBelow (λ p. f (orientBase σ p)) top ≡ countBelow f top
 count-oriented Plus f = refl
