@@ -13,7 +13,6 @@ use Rattle.common.specs.Lists.{any}
 use Rattle.common.proofs.TestParts.{on-test, or-false}
 use Rattle.common.proofs.Lists.{any-none}
 use Rattle.transcript.specs.declared.Strand.{Strand}
-use Rattle.transcript.specs.declared.Strand.the-variants.{Plus, Minus}
 use Rattle.transcript.specs.declared.Exon.{Exon}
 use Rattle.transcript.specs.declared.TranscriptModel.{TranscriptModel}
 use Rattle.transcript.specs.Limits.{top, coordinateLimit}
@@ -32,7 +31,7 @@ use Rattle.locate.specs.Exonic.{headOf}
 use Rattle.transcript.proofs.Ascends.{Ascends}
 use Rattle.transcript.proofs.Facts.{Facts}
 use Rattle.transcript.proofs.Admitted.{ascending-exons, exons-high}
-use Rattle.transcript.proofs.Orient.{inside-by}
+use Rattle.transcript.proofs.Orient.{orient-size, inside-by}
 use Rattle.transcript.proofs.Listed.{nowhere}
 use Rattle.locate.proofs.Sums.{sizes-le}
 use Rattle.locate.proofs.Offset.{sum-last, index-exons, index-cds}
@@ -44,17 +43,13 @@ where-coding : (c : Bool) (v w : ℕ) → (c ≡ true → v ≡ w) → cond c v 
 where-coding true v w h = h refl
 where-coding false v w h = refl
 
--- orienting keeps the size
-turned-size : (σ : Strand) (s e : ℕ) → s < e → e ≤ coordinateLimit → size (orient σ s e) ≡ e - s
-turned-size Plus s e h l = refl
-turned-size Minus s e h l = omega arith
-
+-- orienting keeps the sizes
 pub sizes-turned : (σ : Strand) (xs : List Exon) → any badExon xs ≡ false → map size (map (orientExon σ) xs) ≡ map exonSize xs
 sizes-turned σ [] h = refl
 sizes-turned σ (x ∷ xs) h =
     let n = any-none badExon x xs h in
     let g = or-false (not (ltb (x .«genomic_start») (x .«genomic_end»))) (ltb coordinateLimit (x .«genomic_end»)) (n .0) in
-    let s = turned-size σ (x .«genomic_start») (x .«genomic_end») (ltb-true (x .«genomic_start») (x .«genomic_end») (not-false (ltb (x .«genomic_start») (x .«genomic_end»)) (g .0))) (ltb-false coordinateLimit (x .«genomic_end») (g .1)) in
+    let s = orient-size σ (x .«genomic_start») (x .«genomic_end») (ltb-false coordinateLimit (x .«genomic_end») (g .1)) (ltb-true (x .«genomic_start») (x .«genomic_end») (not-false (ltb (x .«genomic_start») (x .«genomic_end»)) (g .0))) in
     rw (s, sizes-turned σ xs (n .1))
 
 -- the sizes of ascending exons sum up to less than the top

@@ -18,8 +18,7 @@ use Rattle.locate.specs.Search.{Ready, Started, exonOrIntron}
 use Rattle.transcript.proofs.Ascends.{Ascends}
 use Rattle.transcript.proofs.Admitted.{ascending-exons, exons-high}
 use Rattle.transcript.proofs.Listed.{nowhere, oriented-length, oriented-at, edges-at, first-at}
-use Rattle.transcript.proofs.Orient.{orient-high}
-use Rattle.transcript.proofs.LentFacts.{orient-low}
+use Rattle.transcript.proofs.Orient.{orient-high, orient-low}
 use Rattle.locate.proofs.Sums.{starts-from}
 
 -- an interval at an index is not empty; starts ascend

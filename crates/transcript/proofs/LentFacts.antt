@@ -9,12 +9,10 @@ use lib.ListN.{length}
 use borrow.Author.Tests.{le-leb}
 use Rattle.common.specs.Lists.{any}
 use Rattle.common.proofs.TestParts.{on-test}
-use Rattle.transcript.specs.declared.Strand.{Strand}
-use Rattle.transcript.specs.declared.Strand.the-variants.{Plus, Minus}
 use Rattle.transcript.specs.declared.TranscriptModel.{TranscriptModel}
-use Rattle.transcript.specs.Limits.{top, maxExons, maxSelenocysteine, coordinateLimit}
+use Rattle.transcript.specs.Limits.{maxExons, maxSelenocysteine, coordinateLimit}
 use Rattle.transcript.specs.Transcript.{exonsOf, evenLists, lent, cdsStart, cdsEnd}
-use Rattle.transcript.specs.Orient.{Interval, orient, orientExon, oriented}
+use Rattle.transcript.specs.Orient.{Interval, orientExon, oriented}
 use Rattle.transcript.specs.Admission.{badExon, overLimit, ascending, admission}
 use Rattle.transcript.specs.Lent.{phaseOver, padOfPhases}
 use Rattle.transcript.proofs.Ascends.{Ascends}
@@ -94,7 +92,3 @@ module _ (m : TranscriptModel) (ss es ps is gs ge bs : List ℕ) (h : admission 
         lent-are = r;
         facts-are = k;
       }
-
-pub orient-low : (σ : Strand) (s e : ℕ) → s ≤ coordinateLimit → orient σ s e .start ≤ top
-orient-low Plus s e l = omega arith
-orient-low Minus s e l = omega arith

@@ -1,4 +1,4 @@
--- What orienting keeps: order, bounds, and which bases an interval holds.
+-- What orienting keeps: order, bounds, size, which bases an interval holds, and how many pass a test.
 -- Assumes nothing.
 use Prim.Native.Nat.{ℕ, _-_, _≤_, _<_}
 use mathlib.Core.Path.{_≡_, refl, sym}
@@ -16,7 +16,7 @@ use Rattle.transcript.specs.declared.CdsBounds.the-variants.{Neither, Bo
 use Rattle.transcript.specs.Limits.{top, coordinateLimit}
 use Rattle.transcript.specs.Transcript.{cdsStart, cdsEnd, hasBounds}
 use Rattle.transcript.specs.Orient.{Interval, interval, orient, orientBase, orientBounds}
-use Rattle.transcript.specs.Bases.{inside}
+use Rattle.transcript.specs.Bases.{inside, size}
 
 module _ (σ : Strand) (s e : ℕ) (l : e ≤ coordinateLimit) where
   -- an interval that is not empty is not empty when oriented
@@ -33,6 +33,18 @@ module _ (σ : Strand) (s e : ℕ) (l : e ≤ coordinateLimit) where
       high : (σ : Strand) → orient σ s e .end ≤ top
       high Plus = omega arith
       high Minus = omega arith
+
+  -- orienting keeps the size
+  pub orient-size : s < e → size (orient σ s e) ≡ e - s
+  orient-size h = same σ h
+    where
+      same : (σ : Strand) → s < e → size (orient σ s e) ≡ e - s
+      same Plus h = refl
+      same Minus h = omega arith
+
+pub orient-low : (σ : Strand) (s e : ℕ) → s ≤ coordinateLimit → orient σ s e .start ≤ top
+orient-low Plus s e l = omega arith
+orient-low Minus s e l = omega arith
 
 -- the same of a CDS; without bounds it has no bases
 pub bounds-both : (σ : Strand) (b : CdsBounds) → hasBounds b ≡ true → orientBounds σ b ≡ orient σ (cdsStart b) (cdsEnd b)
