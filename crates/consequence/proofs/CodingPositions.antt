@@ -2,22 +2,21 @@
 -- Assumes nothing.
 use Prim.Native.Nat.{ℕ, _+_, _-_, _≤_, _<_, min, max}
 use mathlib.Core.Path.{_≡_, refl, sym, _∙_, ap}
-use mathlib.Core.Bool.{true, false}
+use mathlib.Core.Bool.{true}
 use mathlib.Core.List.{List, [], _∷_}
 use native.Mathlib.Omega.{arith}
 use lib.Dec.{ltb}
 use borrow.Author.Tests.{ltb-true, ltb-false, lt-ltb, le-ltb}
 use Rattle.common.specs.Lists.{any}
 use Rattle.common.proofs.TestParts.{on-test, true-false, or-right}
-use Rattle.transcript.specs.Limits.{top}
 use Rattle.transcript.specs.Transcript.{Transcript}
 use Rattle.transcript.specs.Orient.{Interval, orientBase, oriented}
-use Rattle.transcript.specs.Bases.{inside, insideAny, size, sum, basesIn, totalSize, endAfter}
+use Rattle.transcript.specs.Bases.{inside, insideAny, size, sum, basesIn, totalSize}
 use Rattle.transcript.specs.Admission.{Admitted}
 use Rattle.transcript.proofs.Orient.{inside-start, inside-end, inside-by, orient-twice}
 use Rattle.transcript.proofs.Ascends.{Ascends, inside-from}
 use Rattle.transcript.proofs.Admitted.{facts}
-use Rattle.locate.specs.CodingBases.{isCoding, codingBefore}
+use Rattle.locate.specs.CodingBases.{isCoding}
 use Rattle.locate.proofs.Sums.{bases-none}
 use Rattle.locate.proofs.CodingExons.{segments-ascend}
 use Rattle.locate.proofs.CodingBases.{coding-oriented, coding-low, segments-high, bases-before}

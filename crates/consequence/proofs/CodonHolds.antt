@@ -1,15 +1,13 @@
 -- The codon of a coding call holds the called base at the place in the codon.
 -- Assumes nothing.
-use Prim.Native.Nat.{ℕ, _+_, _-_, _%_, _≤_, _<_}
-use mathlib.Core.Path.{_≡_, refl, sym, _∙_, ap}
-use mathlib.Core.Bool.{true, false, cond}
+use Prim.Native.Nat.{ℕ, _+_, _-_, _%_, _<_}
+use mathlib.Core.Path.{_≡_, sym, _∙_, ap}
+use mathlib.Core.Bool.{true}
 use native.Mathlib.Omega.{arith}
 use lib.Dec.{eqb, leb, ltb}
-use borrow.Author.Tests.{lt-ltb, le-ltb, eqb-true, eqb-false, leb-true, leb-false}
+use borrow.Author.Tests.{lt-ltb, le-ltb, eqb-true, eqb-false, leb-true}
 use Rattle.common.proofs.TestParts.{on-test}
 use Rattle.codon.specs.declared.Codon.{Codon}
-use Rattle.transcript.specs.Limits.{queryLimit}
-use Rattle.transcript.specs.Transcript.{Transcript}
 use Rattle.transcript.specs.Orient.{Oriented, orientBase, oriented}
 use Rattle.transcript.specs.Bases.{basesIn}
 use Rattle.transcript.proofs.Orient.{orient-twice}
@@ -20,7 +18,7 @@ use Rattle.locate.proofs.Coding.{coding-place, coding-offset}
 use Rattle.locate.proofs.CodingExons.{segments-ascend}
 use Rattle.consequence.specs.declared.FetchedBase.{FetchedBase}
 use Rattle.consequence.specs.declared.FetchedCodon.{FetchedCodon}
-use Rattle.consequence.specs.Window.{Window, inWindow, byteAt, baseAt, codingByte, codingFetched, codingBase}
+use Rattle.consequence.specs.Window.{Window, inWindow, byteAt, baseAt, codingFetched, codingBase}
 use Rattle.consequence.specs.Reading.{codingPosition, cdsBase, lengthAt, codonLength, codonOf, ifThere, fetchBases, fetchCodon}
 use Rattle.consequence.specs.CodingPositions.{codonByte, CodonHoldsBase}
 use Rattle.consequence.proofs.Refusals.{opening-within}

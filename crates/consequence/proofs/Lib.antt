@@ -12,3 +12,4 @@ pub mod BesideSpills
 pub mod CallPlaces
 pub mod CodingPositions
 pub mod CodonHolds
+pub mod ShownCodons

@@ -4,6 +4,7 @@ use mathlib.Core.Bool.{true, cond}
 use mathlib.Core.Path.{_≡_}
 use lib.Dec.{eqb}
 use Rattle.codon.specs.declared.Codon.{Codon}
+use Rattle.codon.specs.declared.Codons.{Codons}
 use Rattle.transcript.specs.Limits.{coordinateLimit}
 use Rattle.transcript.specs.Transcript.{Transcript}
 use Rattle.transcript.specs.Orient.{orientBase, oriented}
@@ -52,3 +53,12 @@ CodonHoldsBase =
     isCdsExon (a .location) ≡ true →
     callCodon t w (placeOffset (a .location)) ≡ FetchedCodon.Bases c →
     codonByte c (placeOffset (a .location) % 3) ≡ codingByte (t .model .strand) (byteAt w (q .position))
+
+-- the codons that an answer shows have at their place that byte and the call's, as the coding strand has them
+abbrev pub ShownCodons : Type 0
+ShownCodons =
+    (r : Ranges) (t : Transcript) (w : Window) (q : Call) (a : ConsequenceResult) (c altered : Codon) (place : ℕ) →
+    annotateSnv r t w q ≡ Called.Answered a →
+    a .codons ≡ Codons.Change c altered place →
+    (codonByte c place ≡ codingByte (t .model .strand) (byteAt w (q .position)))
+    × (codonByte altered place ≡ codingByte (t .model .strand) (q .«alt_base»))
