@@ -9,7 +9,8 @@ use lib.Dec.{ltb}
 use borrow.Author.Tests.{ltb-true, ltb-false, lt-ltb, le-ltb}
 use Rattle.common.specs.Lists.{any}
 use Rattle.common.proofs.TestParts.{on-test, true-false, or-right}
-use Rattle.transcript.specs.Transcript.{Transcript}
+use Rattle.transcript.specs.Limits.{coordinateLimit}
+use Rattle.transcript.specs.Transcript.{Transcript, padOf}
 use Rattle.transcript.specs.Orient.{Interval, orientBase, oriented}
 use Rattle.transcript.specs.Bases.{inside, insideAny, size, sum, basesIn, totalSize}
 use Rattle.transcript.specs.Admission.{Admitted}
@@ -19,9 +20,9 @@ use Rattle.transcript.proofs.Admitted.{facts}
 use Rattle.locate.specs.CodingBases.{isCoding}
 use Rattle.locate.proofs.Sums.{bases-none}
 use Rattle.locate.proofs.CodingExons.{segments-ascend}
-use Rattle.locate.proofs.CodingBases.{coding-oriented, coding-low, segments-high, bases-before}
+use Rattle.locate.proofs.CodingBases.{coding-oriented, coding-low, segments-high, bases-before, codingPlaces, offsetsCount}
 use Rattle.consequence.specs.Reading.{codingPosition}
-use Rattle.consequence.specs.CodingPositions.{codingCoordinate, CodingBaseCounts, CodingBaseStands}
+use Rattle.consequence.specs.CodingPositions.{codingCoordinate, CodingBaseCounts, CodingBasePlaced, CodingBaseStands}
 
 -- the bases of an interval before a base of it, and before one past it
 before-in : (s e p : ℕ) → p < e → min e p - max s 0 ≡ p - s
@@ -86,6 +87,12 @@ codingBaseCounts t k n ad l m =
     let r = numbered-base (oriented t .segments) 0 k (segments-ascend t (facts t ad)) l in
     let b = base-back t n ad (codingPosition (oriented t .segments) k) (r .0) in
     (b .1, sym (bases-before t ad (codingCoordinate t k) n m) ∙ ap (λ (p : ℕ). basesIn (oriented t .segments) 0 p) (b .0) ∙ r .1)
+
+pub codingBasePlaced : CodingBasePlaced
+codingBasePlaced r t chromosome k e place ad l h =
+    let b = codingBaseCounts t k coordinateLimit ad l (omega arith) in
+    let c = codingPlaces r t chromosome (codingCoordinate t k) e place h ∙ b .0 in
+    (c, offsetsCount r t chromosome (codingCoordinate t k) e coordinateLimit place h c (omega arith) ∙ ap (λ (n : ℕ). padOf (t .segments) + n) (b .1))
 
 pub codingBaseStands : CodingBaseStands
 codingBaseStands t p n ad c m =

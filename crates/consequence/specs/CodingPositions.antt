@@ -1,17 +1,20 @@
 -- What is claimed of reading: which coordinate coding base k has, and that the codon of a call holds the called base.
-use Prim.Native.Nat.{ℕ, _%_, _≤_, _<_}
+use Prim.Native.Nat.{ℕ, _+_, _%_, _≤_, _<_}
 use mathlib.Core.Bool.{true, cond}
 use mathlib.Core.Path.{_≡_}
 use lib.Dec.{eqb}
 use Rattle.codon.specs.declared.Codon.{Codon}
 use Rattle.codon.specs.declared.Codons.{Codons}
 use Rattle.transcript.specs.Limits.{coordinateLimit}
-use Rattle.transcript.specs.Transcript.{Transcript}
+use Rattle.transcript.specs.Transcript.{Transcript, padOf}
 use Rattle.transcript.specs.Orient.{orientBase, oriented}
 use Rattle.transcript.specs.Bases.{totalSize}
 use Rattle.transcript.specs.Admission.{Admitted}
 use Rattle.footprint.specs.Ranges.{Ranges}
+use Rattle.locate.specs.declared.VariantLocation.{VariantLocation}
+use Rattle.locate.specs.declared.Located.{Located}
 use Rattle.locate.specs.PlaceKind.{isCdsExon, placeOffset}
+use Rattle.locate.specs.Query.{locateVariant}
 use Rattle.locate.specs.CodingBases.{isCoding, codingBefore}
 use Rattle.consequence.specs.declared.FetchedCodon.{FetchedCodon}
 use Rattle.consequence.specs.declared.Call.{Call}
@@ -32,6 +35,14 @@ CodingBaseCounts =
     k < totalSize (oriented t .segments) →
     coordinateLimit ≤ n →
     (isCoding (t .segments) (codingCoordinate t k) ≡ true) × (codingBefore t (codingCoordinate t k) n ≡ k)
+
+-- so its place is CdsExon, and its padded offset the pad and k
+abbrev pub CodingBasePlaced : Type 0
+CodingBasePlaced =
+    (r : Ranges) (t : Transcript) (chromosome k e : ℕ) (place : VariantLocation) → Admitted t →
+    k < totalSize (oriented t .segments) →
+    locateVariant r t chromosome (codingCoordinate t k) e ≡ Located.At place →
+    (isCdsExon place ≡ true) × (placeOffset place ≡ padOf (t .segments) + k)
 
 -- the reverse: a base of a segment with k coding bases before it is coding base k
 abbrev pub CodingBaseStands : Type 0
