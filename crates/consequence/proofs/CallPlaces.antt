@@ -2,6 +2,7 @@
 -- Assumes nothing.
 use Prim.Native.Nat.{ℕ, _+_}
 use mathlib.Core.Path.{_≡_, refl, sym, _∙_, ap}
+use mathlib.Core.List.{List}
 use mathlib.Core.Bool.{Bool, true, not, _||_}
 use native.Mathlib.Omega.{arith}
 use lib.Dec.{eqb}
@@ -13,9 +14,8 @@ use Rattle.transcript.specs.Transcript.{Transcript}
 use Rattle.transcript.specs.Orient.{Oriented, orientBase, oriented}
 use Rattle.transcript.specs.Admission.{admission, Admitted}
 use Rattle.transcript.specs.Question.{badInterval, isElsewhere, questionRefusal}
-use Rattle.footprint.specs.Ranges.{Ranges}
+use Rattle.footprint.specs.declared.Ranges.{Ranges}
 use Rattle.locate.specs.declared.VariantLocation.{VariantLocation}
-use Rattle.locate.specs.declared.VariantLocation.the-variants.{Upstream, Downstream, Distal, FivePrimeUtr, CdsExon, ThreePrimeUtr, SpliceDonor, SpliceAcceptor, SpliceRegion, Intron, FrameshiftIntron, NonCodingExon, NonCodingIntron}
 use Rattle.locate.specs.PlaceKind.{isCdsExon, placeOffset}
 use Rattle.locate.proofs.CodingBases.{coding-base, offset-counts}
 use Rattle.consequence.specs.declared.FetchedCodon.{FetchedCodon}
@@ -23,26 +23,23 @@ use Rattle.consequence.specs.declared.Call.{Call}
 use Rattle.consequence.specs.declared.Called.{Called}
 use Rattle.consequence.specs.declared.ConsequenceResult.{ConsequenceResult}
 use Rattle.consequence.specs.Window.{Window, inWindow, byteAt, codingByte}
-use Rattle.consequence.specs.Answer.{placeResult}
+use Rattle.consequence.specs.declared.region.Region.{Region}
+use Rattle.consequence.specs.Region.{regionOf}
+use Rattle.consequence.specs.Answer.{Columns, regionResult, placeResult}
 use Rattle.consequence.specs.Call.{callPlace, callCodon, badAlt, windowRefusal, openingRefusal, callRefusal, callResult, annotateSnv}
 use Rattle.consequence.specs.CallPlaces.{CodingCalls, CallOffsetsCount}
 
 -- an answer keeps the place that it was made at
-located : (t : Oriented) (p alt : ℕ) (codon : ℕ → FetchedCodon) (place : VariantLocation) → placeResult t p alt codon place .location ≡ place
+in-region : (t : Oriented) (p : ℕ) (place : VariantLocation) (g : Region) (c : Columns) (terms : ℕ) → regionResult t p place g c terms .location ≡ place
+in-region t p place Region.Distal c terms = refl
+in-region t p place (Region.Flank x) c terms = refl
+in-region t p place (Region.Intron i x m) c terms = refl
+in-region t p place (Region.Exon i x m) c terms = refl
+in-region t p place (Region.Coding i o n k m) c terms = refl
+
+pub located : (code : List ℕ) (t : Oriented) (p alt : ℕ) (codon : ℕ → FetchedCodon) (place : VariantLocation) → placeResult code t p alt codon place .location ≡ place
 unfolding placeResult
-located t p alt codon (Upstream d) = refl
-located t p alt codon (Downstream d) = refl
-located t p alt codon Distal = refl
-located t p alt codon (FivePrimeUtr i d m) = refl
-located t p alt codon (CdsExon i g o n k m) = refl
-located t p alt codon (ThreePrimeUtr i d m) = refl
-located t p alt codon (SpliceDonor i d) = refl
-located t p alt codon (SpliceAcceptor i d) = refl
-located t p alt codon (SpliceRegion i s d) = refl
-located t p alt codon (Intron i d) = refl
-located t p alt codon (FrameshiftIntron i d) = refl
-located t p alt codon (NonCodingExon i m) = refl
-located t p alt codon (NonCodingIntron i d) = refl
+located code t p alt codon place = in-region t p place (regionOf (t .coding) place) _ _
 
 -- an answered call: nothing refuses it before its place is known
 module _ (r : Ranges) (t : Transcript) (w : Window) (q : Call) (a : ConsequenceResult) (h : annotateSnv r t w q ≡ Called.Answered a) where
@@ -78,7 +75,7 @@ module _ (r : Ranges) (t : Transcript) (w : Window) (q : Call) (a : ConsequenceR
   unfolding callResult
   call-location =
       ap (λ (x : ConsequenceResult). x .location) (answers .1)
-      ∙ located (oriented t) (orientBase (t .model .strand) (q .position)) (codingByte (t .model .strand) (q .«alt_base»)) (callCodon t w) (callPlace r t q)
+      ∙ located _ (oriented t) (orientBase (t .model .strand) (q .position)) (codingByte (t .model .strand) (q .«alt_base»)) (callCodon t w) (callPlace r t q)
 
 pub codingCalls : CodingCalls
 codingCalls r t w q a h = ap isCdsExon (call-location r t w q a h) ∙ coding-base t (call-admitted r t w q a h) (q .position) r

@@ -2,6 +2,7 @@
 -- Assumes nothing.
 use Prim.Native.Nat.{ℕ, _+_, _-_, _%_}
 use mathlib.Core.Path.{_≡_, refl, sym, _∙_, ap}
+use mathlib.Core.List.{List}
 use mathlib.Core.Bool.{Bool, true, false, cond, not}
 use native.Mathlib.Omega.{arith}
 use lib.Dec.{eqb, leb, ltb}
@@ -12,7 +13,7 @@ use Rattle.codon.specs.declared.Codons.{Codons}
 use Rattle.codon.specs.Table.{standardTable, translateReferenceCodon, buildAltCodon}
 use Rattle.transcript.specs.Orient.{Oriented, orientBase, oriented}
 use Rattle.transcript.specs.Bases.{firstStart, lastEnd}
-use Rattle.footprint.specs.Ranges.{Ranges}
+use Rattle.footprint.specs.declared.Ranges.{Ranges}
 use Rattle.locate.specs.declared.VariantLocation.{VariantLocation}
 use Rattle.locate.specs.declared.VariantLocation.the-variants.{Upstream, Downstream, Distal, FivePrimeUtr, CdsExon, ThreePrimeUtr, SpliceDonor, SpliceAcceptor, SpliceRegion, Intron, FrameshiftIntron, NonCodingExon, NonCodingIntron}
 use Rattle.locate.specs.Find.{Found, inExon, inIntron, outside, findExonOrIntron}
@@ -94,32 +95,32 @@ module _ (c d : Codon) (k : ℕ) where
       let i : place ≡ k = cc in
       record { read = ap FetchedCodon.Bases e; altered = sym (ap (λ (y : Codon). buildAltCodon y place alt) e) ∙ g; at = i }
 
-  by-codon : (t : Oriented) (o n place alt : ℕ) (f : FetchedCodon) → codonColumns t o n place alt f .codons ≡ Codons.Change c d k → Change f alt place
+  by-codon : (code : List ℕ) (t : Oriented) (o n place alt : ℕ) (f : FetchedCodon) → codonColumns code t o n place alt f .codons ≡ Codons.Change c d k → Change f alt place
   unfolding codonColumns
-  by-codon t o n place alt (FetchedCodon.Bases x) h =
+  by-codon code t o n place alt (FetchedCodon.Bases x) h =
       on-test (isIncompleteTerminalCodon t o)
       (λ e. same x alt place (rw e at h))
-      (λ e. on-test (showsCodon t n (translateReferenceCodon standardTable (holdsSelenocysteine t n) x))
+      (λ e. on-test (showsCodon t n (translateReferenceCodon code (holdsSelenocysteine t n) x))
       (λ s. same x alt place (rw (e, s) at h))
       (λ s. absent (rw (e, s) at h)))
-  by-codon t o n place alt FetchedCodon.OutsideWindow h = absent h
+  by-codon code t o n place alt FetchedCodon.OutsideWindow h = absent h
 
-  by-place : (t : Oriented) (p alt : ℕ) (codon : ℕ → FetchedCodon) (place : VariantLocation) → placeResult t p alt codon place .codons ≡ Codons.Change c d k
+  by-place : (code : List ℕ) (t : Oriented) (p alt : ℕ) (codon : ℕ → FetchedCodon) (place : VariantLocation) → placeResult code t p alt codon place .codons ≡ Codons.Change c d k
       → (isCdsExon place ≡ true) × Change (codon (placeOffset place)) alt (codonPlace place)
   unfolding placeResult
-  by-place t p alt codon (Upstream e) h = absent h
-  by-place t p alt codon (Downstream e) h = absent h
-  by-place t p alt codon Distal h = absent h
-  by-place t p alt codon (FivePrimeUtr i e m) h = absent h
-  by-place t p alt codon (CdsExon i g o n j m) h = (refl, by-codon t o n j alt (codon o) h)
-  by-place t p alt codon (ThreePrimeUtr i e m) h = absent h
-  by-place t p alt codon (SpliceDonor i e) h = absent h
-  by-place t p alt codon (SpliceAcceptor i e) h = absent h
-  by-place t p alt codon (SpliceRegion i s e) h = absent h
-  by-place t p alt codon (Intron i e) h = absent h
-  by-place t p alt codon (FrameshiftIntron i e) h = absent h
-  by-place t p alt codon (NonCodingExon i m) h = absent h
-  by-place t p alt codon (NonCodingIntron i e) h = absent h
+  by-place code t p alt codon (Upstream e) h = absent h
+  by-place code t p alt codon (Downstream e) h = absent h
+  by-place code t p alt codon Distal h = absent h
+  by-place code t p alt codon (FivePrimeUtr i e m) h = absent h
+  by-place code t p alt codon (CdsExon i g o n j m) h = (refl, by-codon code t o n j alt (codon o) h)
+  by-place code t p alt codon (ThreePrimeUtr i e m) h = absent h
+  by-place code t p alt codon (SpliceDonor i e) h = absent h
+  by-place code t p alt codon (SpliceAcceptor i e) h = absent h
+  by-place code t p alt codon (SpliceRegion i s e) h = absent h
+  by-place code t p alt codon (Intron i e) h = absent h
+  by-place code t p alt codon (FrameshiftIntron i e) h = absent h
+  by-place code t p alt codon (NonCodingExon i m) h = absent h
+  by-place code t p alt codon (NonCodingIntron i e) h = absent h
 
 -- the base that is put in
 put-in : (c : Codon) (k alt : ℕ) → codonByte (buildAltCodon c (k % 3) alt) (k % 3) ≡ alt
@@ -136,7 +137,7 @@ shownCodons r t w q a c d k h e =
     let p = orientBase (t .model .strand) (q .position) in
     let alt = codingByte (t .model .strand) (q .«alt_base») in
     let loc = call-location r t w q a h in
-    let x = by-place c d k (oriented t) p alt (callCodon t w) (callPlace r t q) (sym (ap (λ (b : ConsequenceResult). b .codons) (answers r t w q a h .1)) ∙ e) in
+    let x = by-place c d k standardTable (oriented t) p alt (callCodon t w) (callPlace r t q) (sym (ap (λ (b : ConsequenceResult). b .codons) (answers r t w q a h .1)) ∙ e) in
     let s = x .1 in
     let i = place-in r (oriented t) p (x .0) in
     let g = ap placeOffset loc in

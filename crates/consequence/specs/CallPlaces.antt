@@ -4,7 +4,7 @@ use mathlib.Core.Bool.{true}
 use mathlib.Core.Path.{_≡_}
 use Rattle.transcript.specs.Limits.{coordinateLimit}
 use Rattle.transcript.specs.Transcript.{Transcript, padOf}
-use Rattle.footprint.specs.Ranges.{Ranges}
+use Rattle.footprint.specs.declared.Ranges.{Ranges}
 use Rattle.locate.specs.PlaceKind.{isCdsExon, placeOffset}
 use Rattle.locate.specs.CodingBases.{isCoding, codingBefore}
 use Rattle.consequence.specs.declared.Call.{Call}

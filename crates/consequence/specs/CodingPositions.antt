@@ -10,7 +10,7 @@ use Rattle.transcript.specs.Transcript.{Transcript, padOf}
 use Rattle.transcript.specs.Orient.{orientBase, oriented}
 use Rattle.transcript.specs.Bases.{totalSize}
 use Rattle.transcript.specs.Admission.{Admitted}
-use Rattle.footprint.specs.Ranges.{Ranges}
+use Rattle.footprint.specs.declared.Ranges.{Ranges}
 use Rattle.locate.specs.declared.VariantLocation.{VariantLocation}
 use Rattle.locate.specs.declared.Located.{Located}
 use Rattle.locate.specs.PlaceKind.{isCdsExon, placeOffset}

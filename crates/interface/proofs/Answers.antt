@@ -2,42 +2,21 @@
 -- Assumes nothing.
 use Prim.Native.Nat.{ℕ, _<_, _^_}
 use mathlib.Core.Path.{_≡_, refl}
-use mathlib.Core.List.{List}
 use mathlib.Core.Bool.{Bool, true, false, cond}
 use lib.Dec.{eqb}
 use Rattle.transcript.specs.Transcript.{Transcript}
-use Rattle.transcript.specs.Orient.{Oriented, orientBase, oriented}
+use Rattle.transcript.specs.Orient.{orientBase, oriented}
 use Rattle.footprint.specs.declared.Ranges.{Ranges}
-use Rattle.locate.specs.declared.VariantLocation.{VariantLocation}
-use Rattle.locate.specs.declared.VariantLocation.the-variants.{Upstream, Downstream, Distal, FivePrimeUtr, CdsExon, ThreePrimeUtr, SpliceDonor, SpliceAcceptor, SpliceRegion, Intron, FrameshiftIntron, NonCodingExon, NonCodingIntron}
 use Rattle.consequence.specs.declared.Call.{Call}
 use Rattle.consequence.specs.declared.Called.{Called}
 use Rattle.consequence.specs.declared.ConsequenceResult.{ConsequenceResult}
-use Rattle.consequence.specs.declared.FetchedCodon.{FetchedCodon}
 use Rattle.consequence.specs.Window.{Window, codingByte}
 use Rattle.consequence.specs.Numbers.{calledNumber}
-use Rattle.consequence.specs.Answer.{placeResult}
 use Rattle.consequence.specs.Call.{callPlace, callCodon, callRefusal, callResult, annotateSnv}
 use Rattle.words.specs.Row.{Near, NearCalled}
+use Rattle.consequence.proofs.CallPlaces.{located}
 use Rattle.interface.proofs.Nearness.{near-place}
 use Rattle.interface.proofs.Leaving.{some-number}
-
--- the place of an answer is the one it was made at
-near-result : (code : List ℕ) (t : Oriented) (p alt : ℕ) (codon : ℕ → FetchedCodon) (place : VariantLocation) → Near place → Near (placeResult code t p alt codon place .location)
-unfolding placeResult
-near-result code t p alt codon (Upstream d) h = h
-near-result code t p alt codon (Downstream d) h = h
-near-result code t p alt codon Distal h = h
-near-result code t p alt codon (FivePrimeUtr i d m) h = h
-near-result code t p alt codon (CdsExon i g o n k m) h = h
-near-result code t p alt codon (ThreePrimeUtr i d m) h = h
-near-result code t p alt codon (SpliceDonor i d) h = h
-near-result code t p alt codon (SpliceAcceptor i d) h = h
-near-result code t p alt codon (SpliceRegion i s d) h = h
-near-result code t p alt codon (Intron i d) h = h
-near-result code t p alt codon (FrameshiftIntron i d) h = h
-near-result code t p alt codon (NonCodingExon i m) h = h
-near-result code t p alt codon (NonCodingIntron i d) h = h
 
 near-answer : (b : Bool) (a : ConsequenceResult) (n : ℕ) → Near (a .location) → NearCalled (cond b (Called.Answered a) (Called.Refused n))
 near-answer true a n h = h
@@ -53,7 +32,7 @@ module _ (r : Ranges) (t : Transcript) (w : Window) (q : Call) where
   near-called l =
       let p = orientBase (t .model .strand) (q .position) in
       near-answer (eqb (callRefusal r t w q) 0) (callResult r t w q) (callRefusal r t w q)
-      (near-result _ (oriented t) p (codingByte (t .model .strand) (q .«alt_base»)) (callCodon t w) (callPlace r t q) (near-place r l (oriented t) p))
+      (rw (located _ (oriented t) p (codingByte (t .model .strand) (q .«alt_base»)) (callCodon t w) (callPlace r t q)) (near-place r l (oriented t) p))
 
   -- a refused call has a number
   pub called-some : (n : ℕ) → annotateSnv r t w q ≡ Called.Refused n → 0 < n

@@ -23,7 +23,7 @@ use Rattle.transcript.specs.Question.{placeRefusal, questionRefusal}
 use Rattle.transcript.proofs.Orient.{inside-end, inside-orient, orient-high, count-oriented}
 use Rattle.transcript.proofs.Ascends.{Ascends}
 use Rattle.transcript.proofs.Admitted.{facts}
-use Rattle.footprint.specs.Ranges.{Ranges}
+use Rattle.footprint.specs.declared.Ranges.{Ranges}
 use Rattle.locate.specs.declared.VariantLocation.{VariantLocation}
 use Rattle.locate.specs.declared.Located.{Located}
 use Rattle.locate.specs.Place.{cdsOffset, cdnaPosition, cdnaOfOffset, locate}

@@ -10,7 +10,7 @@ use Rattle.transcript.specs.declared.Strand.the-variants.{Plus, Minus}
 use Rattle.transcript.specs.declared.CdsSegment.{CdsSegment}
 use Rattle.transcript.specs.Limits.{coordinateLimit}
 use Rattle.transcript.specs.Transcript.{Transcript, padOf}
-use Rattle.footprint.specs.Ranges.{Ranges}
+use Rattle.footprint.specs.declared.Ranges.{Ranges}
 use Rattle.locate.specs.declared.VariantLocation.{VariantLocation}
 use Rattle.locate.specs.declared.Located.{Located}
 use Rattle.locate.specs.PlaceKind.{isCdsExon, placeOffset}
