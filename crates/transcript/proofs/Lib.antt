@@ -15,3 +15,4 @@ pub mod LentAdmission
 pub mod CdsFault
 pub mod LentFacts
 pub mod Asking
+pub mod NumbersGiven
