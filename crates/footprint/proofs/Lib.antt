@@ -5,3 +5,4 @@ pub mod Flanking
 pub mod Asked
 pub mod Numbered
 pub mod BaseSpills
+pub mod NumbersGiven
