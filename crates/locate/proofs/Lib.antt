@@ -22,3 +22,4 @@ pub mod VariantCases
 pub mod BasesBefore
 pub mod AloneFacts
 pub mod CodingBases
+pub mod NumbersGiven
