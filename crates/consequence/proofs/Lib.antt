@@ -13,3 +13,4 @@ pub mod CallPlaces
 pub mod CodingPositions
 pub mod CodonHolds
 pub mod ShownCodons
+pub mod NumbersGiven

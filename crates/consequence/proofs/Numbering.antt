@@ -20,9 +20,9 @@ pub call-number : (r : Ranges) (t : Transcript) (w : Window) (q : Call) → call
 unfolding annotateSnv
 call-number r t w q = on-test (eqb (callRefusal r t w q) 0) (λ e. rw e (sym (eqb-true (callRefusal r t w q) 0 e))) (λ e. rw e)
 
-pub base-number : (w : Window) (p : ℕ) → fetchedBaseNumber (baseAt w p) ≡ refuse (not (inWindow w p)) 17 0
+pub base-number : (outside : ℕ) (w : Window) (p : ℕ) → fetchedBaseNumber outside (baseAt w p) ≡ refuse (not (inWindow w p)) outside 0
 unfolding baseAt
-base-number w p = on-test (inWindow w p) (λ e. rw e) (λ e. rw e)
+base-number outside w p = on-test (inWindow w p) (λ e. rw e) (λ e. rw e)
 
 pub codon-number : (c : FetchedCodon) → fetchedCodonNumber c ≡ refuse (isOutside c) 21 0
 codon-number (FetchedCodon.Bases c) = refl

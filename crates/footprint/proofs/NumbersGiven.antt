@@ -4,7 +4,7 @@ use Prim.Native.Nat.{ℕ, suc}
 use mathlib.Core.Path.{_≡_, refl, sym}
 use mathlib.Core.Bool.{Bool, true}
 use mathlib.Core.List.{List, [], _∷_}
-use Rattle.common.specs.Lists.{any, memb}
+use Rattle.common.specs.Lists.{any, all, memb}
 use Rattle.common.proofs.TestParts.{true-false, on-test}
 use Rattle.transcript.specs.Transcript.{Transcript}
 use Rattle.transcript.specs.Orient.{Interval, oriented, orient}
@@ -12,7 +12,7 @@ use Rattle.transcript.specs.Bases.{gaps}
 use Rattle.transcript.specs.Admission.{admission}
 use Rattle.transcript.specs.Question.{questionRefusal, intervalRefusal}
 use Rattle.transcript.specs.Numbers.{admissionNumbers}
-use Rattle.transcript.proofs.NumbersGiven.{among-more, question-among, admission-among, given-by}
+use Rattle.transcript.proofs.NumbersGiven.{among-in, question-among, admission-among, given-by}
 use Rattle.footprint.specs.declared.Flanked.{Flanked}
 use Rattle.footprint.specs.declared.Endpoint.{Endpoint}
 use Rattle.footprint.specs.declared.Spilled.{Spilled}
@@ -23,8 +23,8 @@ use Rattle.footprint.specs.Numbers.{flankedNumber, endpointNumber, spill
 
 -- the refusals that every question shares
 pub refusal-among : (t : Transcript) (bad away : Bool) → memb (questionRefusal t bad away) questionNumbers ≡ true
-unfolding any
-refusal-among t bad away = question-among t questionNumbers refl refl refl (among-more (admission t) admissionNumbers (15 ∷ 14 ∷ []) (admission-among t)) bad away
+unfolding any all
+refusal-among t bad away = question-among t questionNumbers refl refl refl (among-in admissionNumbers questionNumbers refl (admission t) (admission-among t)) bad away
 
 pub flankGiven : FlankGiven
 unfolding flank

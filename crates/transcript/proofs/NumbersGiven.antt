@@ -3,13 +3,13 @@
 use Prim.Native.Nat.{ℕ}
 use mathlib.Core.Path.{_≡_, refl, sym, _∙_, ap}
 use mathlib.Core.Bool.{Bool, true, false, cond}
-use mathlib.Core.List.{List, [], _∷_, _++_, map}
+use mathlib.Core.List.{List, [], _∷_, map}
 use lib.Dec.{eqb, leb}
 use lib.ListN.{length}
 use borrow.Author.Tests.{eqb-true}
 use Rattle.common.specs.Refuse.{refuse, orElse}
-use Rattle.common.specs.Lists.{any, memb}
-use Rattle.common.proofs.TestParts.{true-false, on-test}
+use Rattle.common.specs.Lists.{any, all, memb}
+use Rattle.common.proofs.TestParts.{true-false, and-true, on-test}
 use Rattle.transcript.specs.declared.Admission.{Admission}
 use Rattle.transcript.specs.Transcript.{Transcript}
 use Rattle.transcript.specs.Orient.{oriented}
@@ -25,11 +25,13 @@ among-refuse ns false n later h k = k
 pub among-else : (ns : List ℕ) (n later : ℕ) → memb n ns ≡ true → memb later ns ≡ true → memb (orElse n later) ns ≡ true
 among-else ns n later h k = on-test (eqb n 0) (λ e. rw e k) (λ e. rw e h)
 
--- among some, hence among more
-pub among-more : (n : ℕ) (ns ms : List ℕ) → memb n ns ≡ true → memb n (ns ++ ms) ≡ true
-unfolding any
-among-more n [] ms h = absurd (true-false (sym h))
-among-more n (x ∷ ns) ms h = on-test (eqb n x) (λ e. rw e) (λ e. rw e (among-more n ns ms (rw e at h)))
+-- among some, all of which are among others
+pub among-in : (ns ms : List ℕ) → all (λ n. memb n ms) ns ≡ true → (n : ℕ) → memb n ns ≡ true → memb n ms ≡ true
+unfolding any all
+among-in [] ms h n k = absurd (true-false (sym k))
+among-in (x ∷ ns) ms h n k =
+    let both = and-true (memb x ms) (all (λ n. memb n ms) ns) h in
+    on-test (eqb n x) (λ e. ap (λ (i : ℕ). memb i ms) (eqb-true n x e) ∙ both .0) (λ e. among-in ns ms (both .1) n (rw e at k))
 
 -- of an answer that is `x` where the refusal w is 0, else the refusal
 module _ {A : Type 0} (number : A → ℕ) (answered : A → Bool) (refused : ℕ → A) (numbered : (n : ℕ) → number (refused n) ≡ n) (not : (n : ℕ) → answered (refused n) ≡ false) where
