@@ -5,3 +5,4 @@ pub mod TermList
 pub mod AnswerLine
 pub mod NameTable
 pub mod CalledLine
+pub mod NumbersGiven
