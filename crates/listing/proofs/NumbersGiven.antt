@@ -1,0 +1,119 @@
+-- Demand 1 of the lister: its opening, its next line, and what it prints.
+-- Assumes nothing.
+use Prim.Native.Nat.{ℕ, suc}
+use mathlib.Core.Path.{_≡_, refl}
+use mathlib.Core.Bool.{Bool, true, false, _||_}
+use mathlib.Core.List.{List, [], _∷_, _++_, map}
+use mathlib.Core.Logic.{inl, inr}
+use lib.Dec.{eqb}
+use Rattle.common.specs.Refuse.{refuse, orElse}
+use Rattle.common.specs.Lists.{any, all, memb}
+use Rattle.common.proofs.TestParts.{on-test}
+use Rattle.footprint.specs.Ranges.{sourceRanges}
+use Rattle.transcript.specs.Transcript.{Transcript}
+use Rattle.transcript.specs.Numbers.{NumberGiven}
+use Rattle.transcript.proofs.NumbersGiven.{among-in}
+use Rattle.consequence.specs.declared.Called.{Called}
+use Rattle.consequence.specs.Window.{Window}
+use Rattle.consequence.specs.Numbers.{calledNumber, isAnswered, callNumbers}
+use Rattle.consequence.proofs.NumbersGiven.{callGiven}
+use Rattle.deck.specs.declared.DeckAnswer.{DeckAnswer}
+use Rattle.deck.specs.declared.DeckAnswer.the-variants.{Accepted, Refused}
+use Rattle.deck.specs.declared.DeckTable.{DeckTable}
+use Rattle.deck.specs.Deck.{readDeck, deckTranscripts, deckNumber}
+use Rattle.deck.specs.Table.{deckOf}
+use Rattle.deck.specs.Numbers.{isAccepted, deckNumbers}
+use Rattle.deck.proofs.NumbersGiven.{deckGiven}
+use Rattle.lines.specs.declared.Written.{Written}
+use Rattle.lines.specs.Line.{calledLine, writeAnswer, writtenNumber}
+use Rattle.lines.specs.Numbers.{isWritten}
+use Rattle.lines.proofs.NumbersGiven.{lineGiven}
+use Rattle.listing.specs.declared.ParsedCall.{ParsedCall}
+use Rattle.listing.specs.declared.ParsedCall.the-variants.{Read, Malformed}
+use Rattle.listing.specs.declared.Cursor.{Cursor}
+use Rattle.listing.specs.WindowFile.{badWindowFile, badCallFile, windowOf}
+use Rattle.listing.specs.Calls.{linesOf, parseCall}
+use Rattle.listing.specs.Listing.{listedCall, callLines, allLines, listingOf, listing}
+use Rattle.listing.specs.Opening.{openedAs, opened}
+use Rattle.listing.specs.Steps.{line, ended, listed}
+use Rattle.listing.specs.Numbers.{openingNumber, isOpened, listedNumber, isListed, openingNumbers, OpeningGiven, NextGiven, Each, printedNumbers, Printed, ListingGiven}
+
+-- a deck's answer
+abbrev Judged : DeckAnswer → Type 0
+Judged a = NumberGiven deckNumbers (deckNumber a) (deckNumber a) (isAccepted a)
+
+judged : (deck : List ℕ) → Judged (readDeck deck)
+unfolding deckOf
+judged deck = deckGiven deck
+
+abbrev OpensBy : DeckAnswer → DeckTable → List ℕ → List ℕ → Type 0
+OpensBy a t window calls =
+    NumberGiven openingNumbers (orElse (deckNumber a) (refuse (badWindowFile window || badCallFile calls) 27 0))
+    (openingNumber (openedAs a t window calls .opening)) (isOpened (openedAs a t window calls .opening))
+
+opening-by : (a : DeckAnswer) → Judged a → (t : DeckTable) (window calls : List ℕ) → OpensBy a t window calls
+unfolding any all
+opening-by (Refused n i) g t window calls = record {
+  refusal-is = rw (g .zero-answered);
+  among = among-in deckNumbers openingNumbers refl n (g .among);
+  zero-answered = g .zero-answered;
+}
+opening-by Accepted g t window calls = on-test (badWindowFile window || badCallFile calls)
+    (λ e. rw e (record { refusal-is = refl; among = refl; zero-answered = refl }))
+    (λ e. rw e (record { refusal-is = refl; among = refl; zero-answered = refl }))
+
+pub openingGiven : OpeningGiven
+unfolding opened deckOf
+openingGiven deck window calls = opening-by (readDeck deck) (judged deck) (deckOf deck .table) window calls
+
+-- the answer has the number of the written line
+by-written : {ns : List ℕ} {w : ℕ} (c : Cursor) (x : Written) → NumberGiven ns w (writtenNumber x) (isWritten x) → NumberGiven ns w (listedNumber (listed x c)) (isListed (listed x c))
+by-written c (Written.Bytes n) g = g
+by-written c (Written.Refused n) g = g
+
+pub nextGiven : NextGiven
+unfolding any
+nextGiven buffer (line l c) = by-written c (writeAnswer buffer l) (lineGiven buffer l)
+nextGiven buffer ended = record { refusal-is = refl; among = refl; zero-answered = refl }
+
+module _ {A : Type 0} (so : A → Type 0) where
+  each-both : (xs ys : List A) → Each so xs → Each so ys → Each so (xs ++ ys)
+  each-both [] ys h k = k
+  each-both (x ∷ xs) ys h k = (h .0, each-both xs ys (h .1) k)
+
+  each-of : {B : Type 0} (f : B → A) → ((b : B) → so (f b)) → (bs : List B) → Each so (map f bs)
+  each-of f h [] = tt
+  each-of f h (b ∷ bs) = (h b, each-of f h bs)
+
+-- one of some numbers that is not 0 is printed
+printed-number : (ns : List ℕ) → all (λ n. memb n (0 ∷ printedNumbers)) ns ≡ true → (n : ℕ) → memb n ns ≡ true → eqb n 0 ≡ false → memb n printedNumbers ≡ true
+unfolding any
+printed-number ns h n k z = rw z at (among-in ns (0 ∷ printedNumbers) h n k)
+
+called-printed : (number id : ℕ) {w : ℕ} (x : Called) → NumberGiven callNumbers w (calledNumber x) (isAnswered x) → Printed (calledLine number id x)
+unfolding any all
+called-printed number id (Called.Answered a) g = inl (number, id, a, refl)
+called-printed number id (Called.Refused n) g = inr (number, id, n, printed-number callNumbers refl n (g .among) (g .zero-answered), refl)
+
+call-printed : (ts : List Transcript) (w : Window) (number : ℕ) (p : ParsedCall) → Each Printed (callLines ts w number p)
+unfolding any
+call-printed ts w number (Read q) =
+    each-of Printed (λ (t : Transcript). calledLine number (t .model .id) (listedCall t w q))
+    (λ t. called-printed number (t .model .id) (listedCall t w q) (callGiven sourceRanges t w q)) ts
+call-printed ts w number Malformed = (inr (number, 0, 26, refl, refl), tt)
+
+all-printed : (ts : List Transcript) (w : Window) (number : ℕ) (ls : List (List ℕ)) → Each Printed (allLines ts w number ls)
+unfolding allLines
+all-printed ts w number [] = tt
+all-printed ts w number (l ∷ ls) = each-both Printed (callLines ts w number (parseCall l)) (allLines ts w (suc number) ls) (call-printed ts w number (parseCall l)) (all-printed ts w (suc number) ls)
+
+printed-by : (a : DeckAnswer) → Judged a → (deck window calls : List ℕ) → Each Printed (listingOf a deck window calls)
+unfolding any all listingOf
+printed-by (Refused n i) g deck window calls = (inr (0, i, n, printed-number deckNumbers refl n (g .among) (g .zero-answered), refl), tt)
+printed-by Accepted g deck window calls = on-test (badWindowFile window || badCallFile calls)
+    (λ e. rw e (inr (0, 0, 27, refl, refl), tt))
+    (λ e. rw e (all-printed (deckTranscripts deck) (windowOf window) 1 (linesOf calls)))
+
+pub listingGiven : ListingGiven
+unfolding listing
+listingGiven deck window calls = printed-by (readDeck deck) (judged deck) deck window calls
