@@ -1,2 +1,4 @@
-pub mod Columns
+pub mod Arrays
+pub mod Made
+pub mod Tables
 pub mod WindowBytes

@@ -4,6 +4,9 @@ use mathlib.Core.Bool.{Bool, cond, _&&_}
 use mathlib.Core.List.{List, []}
 use lib.ListN.{length}
 use lib.Dec.{eqb}
+use denote.Ref.{RefT, now}
+use denote.Triple.Both.{Both}
+use Rattle.common.specs.Slices.{Passed}
 use Rattle.transcript.specs.declared.TranscriptModel.{TranscriptModel}
 use Rattle.transcript.specs.declared.Exon.{Exon}
 use Rattle.transcript.specs.Transcript.{Transcript, segmentsOf}
@@ -21,3 +24,12 @@ lentRecords m xs phases indexes starts ends bases = record {
   segments = segmentsOf phases indexes starts ends;
   selenocysteine = bases;
 }
+
+-- the same of records beside slices that were given, as an `ensures` names them
+abbrev pub recordsLent : TranscriptModel → List Exon → Passed → Passed → Passed → Passed → Passed → Transcript
+recordsLent m xs phases indexes starts ends bases =
+    lentRecords m xs (now (phases .entry)) (now (indexes .entry)) (now (starts .entry)) (now (ends .entry)) (now (bases .entry))
+
+-- the transcript that was given, its exons as a slice of records
+abbrev pub recordsWereGiven : TranscriptModel → Both (RefT (List Exon)) (RefT (List Exon)) → Passed → Passed → Passed → Passed → Passed → Transcript
+recordsWereGiven m xs phases indexes starts ends bases = recordsLent m (now (xs .entry)) phases indexes starts ends bases

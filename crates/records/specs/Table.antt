@@ -1,33 +1,19 @@
--- The table that a list of exon records gives, and the place on a table.
-use Prim.Native.Nat.{ℕ, suc}
-use mathlib.Core.List.{List, [], _∷_}
-use mathlib.Core.Bool.{cond}
-use lib.Dec.{ltb}
-use lib.ListN.{set, replicate, take}
-use Rattle.transcript.specs.declared.TranscriptModel.{TranscriptModel}
+-- The table that the code makes of exon records.
+use Prim.Native.Nat.{ℕ, _≤_}
+use mathlib.Core.Path.{_≡_}
+use mathlib.Core.List.{List, map}
+use lib.ListN.{length, take}
 use Rattle.transcript.specs.declared.Exon.{Exon}
-use Rattle.transcript.specs.Transcript.{lent}
-use Rattle.footprint.specs.Ranges.{sourceRanges}
-use Rattle.locate.specs.Query.{locateVariant}
-use Rattle.locate.specs.declared.Located.{Located}
 use Rattle.records.specs.declared.ExonTable.{ExonTable}
 
-abbrev pub stored : ExonTable → ℕ → Exon → ExonTable
-stored t i x = record { starts = set (t .starts) i (x .«genomic_start»); ends = set (t .ends) i (x .«genomic_end») }
+abbrev pub startsOf : List Exon → List ℕ
+startsOf xs = map (λ (x : Exon). x .«genomic_start») xs
 
--- the records of the list stored one after the other, from place i on
-unfoldable pub storedFrom : ExonTable → ℕ → List Exon → ExonTable
-storedFrom t i [] = t
-storedFrom t i (x ∷ xs) = storedFrom (stored t i x) (suc i) xs
+abbrev pub endsOf : List Exon → List ℕ
+endsOf xs = map (λ (x : Exon). x .«genomic_end») xs
 
-unfoldable pub emptyTable : ExonTable
-emptyTable = record { starts = replicate 512 0; ends = replicate 512 0 }
-
-unfoldable pub tableOf : List Exon → ExonTable
-tableOf xs = storedFrom emptyTable 0 xs
-
--- the place on the first n exons of a table; over 512 is refusal 1
-abbrev pub locatedOn : ℕ → ℕ → ℕ → TranscriptModel → ExonTable → ℕ → List ℕ → List ℕ → List ℕ → List ℕ → List ℕ → Located
-locatedOn chromosome s e m t n phases indexes starts ends bases =
-    cond (ltb 512 n) (Located.Refused 1)
-    (locateVariant sourceRanges (lent m (take n (t .starts)) (take n (t .ends)) phases indexes starts ends bases) chromosome s e)
+-- the number of the records and, up to 512, their starts and ends in front
+pub record Tabled (xs : List Exon) (t : ExonTable) : Type 0 where
+  pub counted : t .count ≡ length xs
+  pub starting : length xs ≤ 512 → take (length xs) (t .starts) ≡ startsOf xs
+  pub ending : length xs ≤ 512 → take (length xs) (t .ends) ≡ endsOf xs
