@@ -19,7 +19,7 @@ use ghost.Atoms.{Atoms, sem}
 use contract.Lifetimes.{Lfts, Shares}
 use contract.Monad.{Fun, fact}
 use contract.Running.{givenOf, tables, tablesOf}
-use types.Kit.{Seq, Go, passes, runs, Given, Item, ‵, raw, _⊛_, some, later, ⋆, atRet, _$_, _∵_, !, qed, by, move, drop as drops, use1, use3, split, join, pick, learn, given, fsplit, fjoin, suffices, frame, await, done}
+use types.Kit.{Seq, Go, passes, runs, Given, Item, ‵, raw, _⊛_, some, later, ⋆, atRet, _$_, _∵_, !, qed, by, move, drop as drops, use1, use3, split, join, pick, fsplit, fjoin, suffices, frame, await, done}
 use types.Part.{whole, sub, look-in}
 use types.Run.{look, init, forget, stop, fld, from, load, of-opd, assigns, and-then, no-more, land, returns, enter, alloc1, alloc0, params1, pass1, pass0, free1, free0, exec}
 use sound.WpLaws.{FmC, fmOf, WpFn-mono}
@@ -32,10 +32,7 @@ use denote.Slice.{sliceTy, ShrSlice, Room, slice-vals, shr-slice-tells}
 use denote.Signature.{namedLft, plain, shrSliceOf}
 use denote.Builtin.{u8, u16, u64}
 use denote.Enum.Laws as EL
-use denote.Struct.Declared.{Declared}
 use denote.Struct.Laws as LL
-use denote.Struct.Rest.{all-own, ownAt, rest as others, own-open, own-out}
-use denote.Struct.Values.{Values}
 use denote.Steps.{nothing, owned, peeks, heard}
 use denote.Triple.Statement.{Contract, Triple}
 use denote.Triple.Call.{calls-at}
@@ -66,6 +63,7 @@ use Rattle.records.proofs.ExonTable as E
 use Rattle.records.proofs.ExonTable.Laws as E′
 use Rattle.records.proofs.Window as T
 use Rattle.records.proofs.Window.Laws as T′
+use Rattle.records.proofs.HeldWindow.{bytes-of}
 use Rattle.records.proofs.Made.{half, word, slice, v, model, Five, Tokens, TableOf, makes-table}
 use Rattle.records.proofs.table.table_of.Symbol as table-of-def
 use Rattle.records.proofs.table.table_of.Symbol.{name as #table-of}
@@ -132,25 +130,13 @@ module _ {M : Type 1} (𝓤 : URA M) (H : Heap 𝓤) (A : Atoms 𝓤) (W : Given
   abbrev Tokens₀ : Item 𝓤
   Tokens₀ = ‵ (flft κ₀ q₀) ⊛ Tokens κ₂ κ₃ κ₄ κ₅ κ₆ q₂ q₃ q₄ q₅ q₆
 
-  -- the window's type and laws, and its fields' values
-  abbrev D : Declared
-  D = T.the-type (namedLft 7 0 tt κs)
-
-  abbrev L : LL.Laws D
-  L = T′.the-laws (namedLft 7 0 tt κs)
-
-  abbrev vd : Values (D .parts)
-  vd = (d .chromosome, (d .first, (d .bytes, tt)))
-
   apart : ent 𝓤 (onEntry 𝓤 H A outer.signature κs qs a at) (⋆ 𝓤 H A (‵ Own ∷ ‵ (flft κ₁ q₁) ∷ Tokens₀ ∷ ‵ Bytes ∷ ‵ Five₂ ∷ []))
   apart =
       qed W ((‵ (flft κ₀ q₀) ⊛ ‵ (flft κ₁ q₁) ⊛ Tokens κ₂ κ₃ κ₄ κ₅ κ₆ q₂ q₃ q₄ q₅ q₆) ∷ ‵ (owns (B κs ∷ Q.the-row ∷ Mo.the-row ∷ ShrSlice (named 1) κ₁ X.the-row ∷ ShrSlice (named 2) κ₂ u8 ∷ ShrSlice (named 3) κ₃ u16 ∷ ShrSlice (named 4) κ₄ u64 ∷ ShrSlice (named 5) κ₅ u64 ∷ ShrSlice (named 6) κ₆ u64 ∷ []) a at) ∷ []) ∵
       split ! $ move ! (1 ∷ []) $ split ! $ move ! (2 ∷ 1 ∷ []) $ join ! $ move ! (2 ∷ []) $ fsplit ! $
-      use1 W (given (held ∷ [] ≡ held ∷ []) (‵ (all-own (D .parts) L vd))) (own-open 𝓤 H A W D L vd held) $ learn ! (λ _. use1 W (‵ (ownAt (D .parts) L 2 (d .bytes)) ⊛ ‵ (others (D .parts) L 2 vd)) (own-out 𝓤 H A W (D .parts) L 2 vd) $ split ! $
-      -- [what bytes owns; what the window's other fields own; what the other parameters own; the tokens]
-      move ! (1 ∷ []) $ drops ! $ move ! (1 ∷ []) $ fsplit ! $ drops ! $ fsplit ! $ drops ! $ fsplit ! $
+      use1 W (‵ Bytes) (bytes-of 𝓤 H A W (namedLft 7 0 tt κs) d) $ move ! (1 ∷ []) $ fsplit ! $ drops ! $ fsplit ! $ drops ! $ fsplit ! $
       -- [what the exons own; what the five slices own; what bytes owns; the tokens]
-      frame ! $ move ! (3 ∷ []) $ frame ! $ move ! (2 ∷ []) $ frame ! $ move ! (1 ∷ []) $ frame ! $ done !)
+      frame ! $ move ! (3 ∷ []) $ frame ! $ move ! (2 ∷ []) $ frame ! $ move ! (1 ∷ []) $ frame ! $ done !
 
   exits : (r : Called) (u : Val) → r ≡ annotateSnv sourceRanges (lentRecords m (now xs) (now ps) (now is) (now ss) (now es) (now bs)) (windowOf d) ca → ent 𝓤 (⋆ 𝓤 H A (‵ (N.the-row .own r (u ∷ [])) ∷ Tokens₀ ∷ ‵ (flft κ₁ q₁) ∷ [])) (Post u)
   exits r u e =
