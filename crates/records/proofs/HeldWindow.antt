@@ -12,9 +12,8 @@ use base.Logic.{SProp, ent, emp, via, fst∗, snd∗, exE, id⊢}
 use base.Fml.{Lft, Share, ftrue, flft}
 use prog.Wp.{Heap, WpFn, Tables}
 use ghost.Atoms.{Atoms, sem}
-use contract.Lifetimes.{Lfts}
 use contract.Monad.{fact}
-use types.Kit.{Given, ‵, raw, _⊛_, given, ⋆, some, later, _$_, _∵_, !, qed, by, move, drop, use1, use2, split, join, learn, pick, fsplit, fjoin, suffices, frame, await, done}
+use types.Kit.{Given, ‵, raw, _⊛_, given, ⋆, some, later, _$_, _∵_, !, qed, by, move, drop, use1, split, join, learn, pick, fsplit, fjoin, suffices, frame, await, done}
 use types.Part.{whole, sub, look-in}
 use types.Run.{look, init, forget, stop, fld, from, load, of-opd, and-then, no-more, assigns, land, returns, enter, alloc1, alloc0, params1, pass1, pass0, free1, free0}
 use sound.WpLaws.{fmOf, WpFn-mono}
@@ -23,7 +22,7 @@ use denote.Laws.{Is, shows}
 use denote.Plain.{uint-vals, uint-tells, uint-makes}
 use denote.Builtin.{SliceRefOf, u8, u64}
 use denote.Ref.{NamedLft, now}
-use denote.Signature.{Signature, namedLft, plain}
+use denote.Signature.{namedLft, plain}
 use denote.Slice.{sliceTy, ShrSlice}
 use denote.Steps.{owned, peeks, heard, nothing}
 use denote.Struct.Laws as LL

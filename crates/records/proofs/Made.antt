@@ -1,6 +1,5 @@
 -- What the entries over records share in their walks: the machine values of a model and of a slice, and the call of `table_of` as a step.
 -- Assumes `Given`.
-use mathlib.Core.Path.{_≡_}
 use Prim.Native.Nat.{ℕ}
 use mathlib.Core.List.{List, [], _∷_}
 use lib.ListN.{length}

@@ -3,9 +3,9 @@
 use Prim.Native.Nat.{ℕ, zero, suc, _+_, _-_, _≤_, _<_}
 use mathlib.Core.Path.{_≡_, refl, ap, subst}
 use mathlib.Core.Bool.{Bool, true, false, cond}
-use mathlib.Core.List.{List, [], _∷_, _++_, map}
+use mathlib.Core.List.{List, [], _∷_, map}
 use native.Mathlib.Omega.{arith}
-use lib.ListN.{length, getD, take, set, replicate, length-map, length-replicate}
+use lib.ListN.{length, getD, take, set, replicate, length-map}
 use lib.Seq.{take-length, take-at}
 use borrow.Author.Tests.{lt-ltb, ne-eqb, eq-eqb}
 use Rattle.common.proofs.Filling.{front, front-length, front-step}

@@ -30,6 +30,10 @@ abbrev pub recordsLent : TranscriptModel → List Exon → Passed → Passed →
 recordsLent m xs phases indexes starts ends bases =
     lentRecords m xs (now (phases .entry)) (now (indexes .entry)) (now (starts .entry)) (now (ends .entry)) (now (bases .entry))
 
+-- a slice of exon records, at entry and at exit
+abbrev pub PassedExons : Type 0
+PassedExons = Both (RefT (List Exon)) (RefT (List Exon))
+
 -- the transcript that was given, its exons as a slice of records
-abbrev pub recordsWereGiven : TranscriptModel → Both (RefT (List Exon)) (RefT (List Exon)) → Passed → Passed → Passed → Passed → Passed → Transcript
+abbrev pub recordsWereGiven : TranscriptModel → PassedExons → Passed → Passed → Passed → Passed → Passed → Transcript
 recordsWereGiven m xs phases indexes starts ends bases = recordsLent m (now (xs .entry)) phases indexes starts ends bases
