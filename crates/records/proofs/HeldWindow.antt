@@ -36,7 +36,7 @@ use denote.Triple.Spec.{Meets, tripleOf}
 use denote.Triple.Walked.{says, Stays, stay-dropped, walkOf, goes-dropped, Walks, ends-at, walked, walk-meets}
 use denote.Exit.{yes}
 use Rattle.records.specs.declared.Window.{Window}
-use Rattle.records.proofs.Made.{word, v}
+use Rattle.records.proofs.EntrySteps.{word, v}
 use Rattle.records.proofs.Window as T
 use Rattle.records.proofs.Window.Laws as T′
 

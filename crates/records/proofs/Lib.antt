@@ -1,5 +1,5 @@
 pub mod Arrays
+pub mod EntrySteps
 pub mod HeldWindow
-pub mod Made
 pub mod Tables
 pub mod WindowBytes

@@ -64,7 +64,7 @@ use Rattle.records.proofs.ExonTable.Laws as E′
 use Rattle.records.proofs.Window as T
 use Rattle.records.proofs.Window.Laws as T′
 use Rattle.records.proofs.HeldWindow.{bytes-of}
-use Rattle.records.proofs.Made.{half, word, slice, v, model, Five, Tokens, TableOf, makes-table}
+use Rattle.records.proofs.EntrySteps.{half, word, slice, v, model, Five, Tokens, TableOf, makes-table}
 use Rattle.records.proofs.table.table_of.Symbol as table-of-def
 use Rattle.records.proofs.table.table_of.Symbol.{name as #table-of}
 use Rattle.records.proofs.table.table_of.Met as table-of-thm

@@ -54,7 +54,7 @@ use Rattle.records.specs.Table.{Tabled}
 use Rattle.records.specs.declared.ExonTable.{ExonTable}
 use Rattle.records.proofs.ExonTable as B
 use Rattle.records.proofs.ExonTable.Laws as B′
-use Rattle.records.proofs.Made.{half, word, slice, v, model, Five, Tokens, TableOf, makes-table}
+use Rattle.records.proofs.EntrySteps.{half, word, slice, v, model, Five, Tokens, TableOf, makes-table}
 use Rattle.records.proofs.table.table_of.Symbol as table-of-def
 use Rattle.records.proofs.table.table_of.Symbol.{name as #table-of}
 use Rattle.records.proofs.table.table_of.Met as table-of-thm
