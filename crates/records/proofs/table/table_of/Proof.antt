@@ -130,19 +130,21 @@ module _ {M : Type 1} (𝓤 : URA M) (H : Heap 𝓤) (A : Atoms 𝓤) (W : Given
     abbrev En : Env 𝓤 H
     En = (B′.mir, l₀) ∷ (slice, l₁) ∷ (word, l₂) ∷ (arr, l₃) ∷ (arr, l₄) ∷ (word, l₅) ∷ (X′.mir, l₆) ∷ (tyBool, l₇) ∷ (tyBool, l₈) ∷ (word, l₉) ∷ (tyPtr, l₁₀) ∷ (X′.mir, l₁₁) ∷ (tyPtr, l₁₂) ∷ (tyPtr, l₁₃) ∷ (tyPtr, l₁₄) ∷ (tyPtr, l₁₅) ∷ (arr, l₁₆) ∷ (arr, l₁₇) ∷ []
 
-    -- what a turn reads, and what it does not touch
-    abbrev At : ℕ → List ℕ → List ℕ → List (Item 𝓤) → List (Item 𝓤)
-    At i ss es F = ‵ (row u64 fullShare ss l₃ 0) ∷ ‵ (row u64 fullShare es l₄ 0) ∷ ‵ (fat fullShare word l₅ 0 (vint w64 i)) ∷ ‵ (froom X′.mir l₆ 0) ∷ ‵ (froom tyBool l₈ 0) ∷ ‵ (froom word l₉ 0) ∷ ‵ (froom tyPtr l₁₀ 0) ∷ ‵ (froom X′.mir l₁₁ 0)
+    -- what a turn reads and writes, with _5 as it stands, and what it does not touch
+    abbrev With : Item 𝓤 → List ℕ → List ℕ → List (Item 𝓤) → List (Item 𝓤)
+    With i ss es F = ‵ (row u64 fullShare ss l₃ 0) ∷ ‵ (row u64 fullShare es l₄ 0) ∷ i ∷ ‵ (froom X′.mir l₆ 0) ∷ ‵ (froom tyBool l₈ 0) ∷ ‵ (froom word l₉ 0) ∷ ‵ (froom tyPtr l₁₀ 0) ∷ ‵ (froom X′.mir l₁₁ 0)
         ∷ ‵ (froom tyPtr l₁₂ 0) ∷ ‵ (froom tyPtr l₁₃ 0) ∷ ‵ (froom tyPtr l₁₄ 0) ∷ ‵ (froom tyPtr l₁₅ 0) ∷ ‵ (fat fullShare slice l₁ 0 (sliceVal (b, o) n)) ∷ ‵ (fat fullShare word l₂ 0 (vint w64 n)) ∷ ‵ (flft κ q) ∷ ‵ Own ∷ F
+
+    -- in the loop; and before it and after it
+    abbrev At : ℕ → List ℕ → List ℕ → List (Item 𝓤) → List (Item 𝓤)
+    At i = With (‵ (fat fullShare word l₅ 0 (vint w64 i)))
+
+    abbrev Off : List ℕ → List ℕ → List (Item 𝓤) → List (Item 𝓤)
+    Off = With (‵ (froom word l₅ 0))
 
     abbrev Dies : List (Item 𝓤)
     Dies = ‵ (fdies B′.mir l₀) ∷ ‵ (fdies slice l₁) ∷ ‵ (fdies word l₂) ∷ ‵ (fdies arr l₃) ∷ ‵ (fdies arr l₄) ∷ ‵ (fdies word l₅) ∷ ‵ (fdies X′.mir l₆) ∷ ‵ (fdies tyBool l₇) ∷ ‵ (fdies tyBool l₈) ∷ ‵ (fdies word l₉) ∷ ‵ (fdies tyPtr l₁₀) ∷ ‵ (fdies X′.mir l₁₁)
         ∷ ‵ (fdies tyPtr l₁₂) ∷ ‵ (fdies tyPtr l₁₃) ∷ ‵ (fdies tyPtr l₁₄) ∷ ‵ (fdies tyPtr l₁₅) ∷ ‵ (fdies arr l₁₆) ∷ ‵ (fdies arr l₁₇) ∷ []
-
-    -- the same before the loop and after it
-    abbrev Off : List ℕ → List ℕ → List (Item 𝓤) → List (Item 𝓤)
-    Off ss es F = ‵ (row u64 fullShare ss l₃ 0) ∷ ‵ (row u64 fullShare es l₄ 0) ∷ ‵ (froom word l₅ 0) ∷ ‵ (froom X′.mir l₆ 0) ∷ ‵ (froom tyBool l₈ 0) ∷ ‵ (froom word l₉ 0) ∷ ‵ (froom tyPtr l₁₀ 0) ∷ ‵ (froom X′.mir l₁₁ 0)
-        ∷ ‵ (froom tyPtr l₁₂ 0) ∷ ‵ (froom tyPtr l₁₃ 0) ∷ ‵ (froom tyPtr l₁₄ 0) ∷ ‵ (froom tyPtr l₁₅ 0) ∷ ‵ (fat fullShare slice l₁ 0 (sliceVal (b, o) n)) ∷ ‵ (fat fullShare word l₂ 0 (vint w64 n)) ∷ ‵ (flft κ q) ∷ ‵ Own ∷ F
 
     is-table : (ss es : List ℕ) (v w : Val) → Is (Array u64 512) ss (v ∷ []) → Is (Array u64 512) es (w ∷ []) → Is B.the-row (record { count = n; starts = ss; ends = es }) (vstruct (ofList (vint w64 n ∷ v ∷ w ∷ [])) ∷ [])
     is-table ss es v w is it = ((vint w64 n ∷ [], (v ∷ [], (w ∷ [], tt))), (refl, ((refl, gn .0), (into ss v is, (into es w it, tt)))))
