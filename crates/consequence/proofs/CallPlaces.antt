@@ -13,7 +13,7 @@ use Rattle.transcript.specs.Limits.{mitochondrial}
 use Rattle.transcript.specs.Transcript.{Transcript}
 use Rattle.transcript.specs.Orient.{Oriented, orientBase, oriented}
 use Rattle.transcript.specs.Admission.{admission, Admitted}
-use Rattle.transcript.specs.Question.{badInterval, isElsewhere, questionRefusal}
+use Rattle.transcript.specs.Question.{badInterval, isElsewhere, queryRefusal}
 use Rattle.footprint.specs.declared.Ranges.{Ranges}
 use Rattle.locate.specs.declared.VariantLocation.{VariantLocation}
 use Rattle.locate.specs.PlaceKind.{isCdsExon, placeOffset}
@@ -54,18 +54,19 @@ module _ (r : Ranges) (t : Transcript) (w : Window) (q : Call) (a : ConsequenceR
   abbrev away : Bool
   away = isElsewhere t (q .chromosome) || isElsewhere t (w .chromosome)
 
-  opened : (questionRefusal t (badInterval (q .position) (q .position + 1)) away ≡ 0) × (refuse (eqb (q .chromosome) mitochondrial) 20 (refuse (badAlt q) 16 (windowRefusal w q)) ≡ 0)
+  opened : Admitted t × (queryRefusal (badInterval (q .position) (q .position + 1)) away (refuse (eqb (q .chromosome) mitochondrial) 20 (refuse (badAlt q) 16 (windowRefusal w q))) ≡ 0)
   unfolding openingRefusal
-  opened = or-else-none (questionRefusal t (badInterval (q .position) (q .position + 1)) away) _ (answers .0)
+  opened = or-else-none (admission t) _ (answers .0)
 
   pub call-admitted : Admitted t
-  unfolding questionRefusal
-  call-admitted = or-else-none (admission t) _ (opened .0) .0
+  call-admitted = opened .0
 
   -- the called base lies in the window, and is the byte there
   pub call-window : (inWindow w (q .position) ≡ true) × (q .«ref_base» ≡ byteAt w (q .position))
   call-window =
-      let m = refuse-none (eqb (q .chromosome) mitochondrial) 20 _ (omega arith) (opened .1) in
+      let s = refuse-none (badInterval (q .position) (q .position + 1)) 15 _ (omega arith) (opened .1) in
+      let c = refuse-none away 14 _ (omega arith) (s .1) in
+      let m = refuse-none (eqb (q .chromosome) mitochondrial) 20 _ (omega arith) (c .1) in
       let b = refuse-none (badAlt q) 16 (windowRefusal w q) (omega arith) (m .1) in
       let i = refuse-none (not (inWindow w (q .position))) 17 _ (omega arith) (b .1) in
       let e = refuse-none (not (eqb (q .«ref_base») (byteAt w (q .position)))) 18 0 (omega arith) (i .1) in

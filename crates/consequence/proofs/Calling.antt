@@ -11,8 +11,7 @@ use Rattle.codon.specs.Table.{standardTable}
 use Rattle.transcript.specs.Transcript.{Transcript}
 use Rattle.transcript.specs.Orient.{interval, orientBase, oriented}
 use Rattle.transcript.specs.Admission.{admission}
-use Rattle.transcript.specs.Question.{badInterval, isElsewhere}
-use Rattle.transcript.proofs.Asking.{by-admission, is-refused}
+use Rattle.transcript.proofs.Asking.{is-refused}
 use Rattle.footprint.specs.declared.SpliceSpill.{SpliceSpill}
 use Rattle.footprint.specs.declared.Ranges.{Ranges}
 use Rattle.footprint.specs.ShortIntron.{exonicSpliceSpill}
@@ -51,7 +50,7 @@ module _ (r : Ranges) (t : Transcript) (w : Window) (q : Call) where
 
   by-number : (n : ℕ) → 0 < n → n ≡ admission t → openingRefusal t w q ≡ n
   unfolding openingRefusal
-  by-number n l e = rw (by-admission t (badInterval (q .position) (q .position + 1)) (isElsewhere t (q .chromosome) || isElsewhere t (w .chromosome)) n l e) (first-refusal n _ l)
+  by-number n l e = rw (sym e) (first-refusal n _ l)
 
   pub not-admitted : (n : ℕ) → 0 < n → n ≡ admission t → Called.Refused n ≡ annotateSnv r t w q
   not-admitted n l e = refused n l (by-number n l e)

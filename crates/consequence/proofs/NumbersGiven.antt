@@ -9,10 +9,10 @@ use Rattle.common.specs.Lists.{any, all, memb}
 use Rattle.common.proofs.TestParts.{on-test}
 use Rattle.transcript.specs.Limits.{mitochondrial}
 use Rattle.transcript.specs.Transcript.{Transcript}
-use Rattle.transcript.specs.Question.{badInterval, isElsewhere, questionRefusal}
-use Rattle.transcript.proofs.NumbersGiven.{among-refuse, among-else, among-in, given-by}
-use Rattle.footprint.specs.Numbers.{questionNumbers}
-use Rattle.footprint.proofs.NumbersGiven.{refusal-among}
+use Rattle.transcript.specs.Admission.{admission}
+use Rattle.transcript.specs.Numbers.{admissionNumbers}
+use Rattle.transcript.specs.Question.{badInterval, isElsewhere}
+use Rattle.transcript.proofs.NumbersGiven.{among-refuse, among-else, among-in, given-by, admission-among}
 use Rattle.footprint.specs.declared.Ranges.{Ranges}
 use Rattle.locate.specs.PlaceKind.{isDistal, isCdsExon, placeOffset}
 use Rattle.consequence.specs.declared.FetchedBase.{FetchedBase}
@@ -28,12 +28,13 @@ module _ (r : Ranges) (t : Transcript) (w : Window) (q : Call) where
   opening-among : memb (openingRefusal t w q) callNumbers ≡ true
   unfolding any all openingRefusal
   opening-among =
-      let asked = questionRefusal t (badInterval (q .position) (q .position + 1)) (isElsewhere t (q .chromosome) || isElsewhere t (w .chromosome)) in
-      among-else callNumbers asked _ (among-in questionNumbers callNumbers refl asked (refusal-among t _ _))
+      among-else callNumbers (admission t) _ (among-in admissionNumbers callNumbers refl (admission t) (admission-among t))
+      (among-refuse callNumbers (badInterval (q .position) (q .position + 1)) 15 _ refl
+      (among-refuse callNumbers (isElsewhere t (q .chromosome) || isElsewhere t (w .chromosome)) 14 _ refl
       (among-refuse callNumbers (eqb (q .chromosome) mitochondrial) 20 _ refl
       (among-refuse callNumbers (badAlt q) 16 _ refl
       (among-refuse callNumbers (not (inWindow w (q .position))) 17 _ refl
-      (among-refuse callNumbers (not (eqb (q .«ref_base») (byteAt w (q .position)))) 18 0 refl refl))))
+      (among-refuse callNumbers (not (eqb (q .«ref_base») (byteAt w (q .position)))) 18 0 refl refl))))))
 
   closing-among : (distal lacks : Bool) → memb (closingRefusal distal lacks) callNumbers ≡ true
   unfolding any

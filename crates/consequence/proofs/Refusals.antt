@@ -10,8 +10,7 @@ use Rattle.common.proofs.TestParts.{on-test}
 use Rattle.transcript.specs.Limits.{queryLimit}
 use Rattle.transcript.specs.Transcript.{Transcript}
 use Rattle.transcript.specs.Admission.{admission}
-use Rattle.transcript.specs.Question.{badInterval, isElsewhere, questionRefusal}
-use Rattle.transcript.proofs.Asking.{by-15, by-14, by-none}
+use Rattle.transcript.specs.Question.{badInterval, isElsewhere}
 use Rattle.consequence.specs.declared.Call.{Call}
 use Rattle.consequence.specs.declared.FetchedBase.{FetchedBase}
 use Rattle.consequence.specs.Window.{Window, inWindow, byteAt, baseAt}
@@ -68,29 +67,26 @@ module _ (t : Transcript) (w : Window) (q : Call) (h : admission t ≡ 0) where
 
   pub is-15 : queryLimit ≤ q .position → 15 ≡ openingRefusal t w q
   unfolding openingRefusal
-  is-15 l = rw (by-15 t bad away h (bad-base (q .position) l))
+  is-15 l = rw (h, bad-base (q .position) l)
 
   module _ (l : q .position < queryLimit) where
     pub is-14 : away ≡ true → 14 ≡ openingRefusal t w q
     unfolding openingRefusal
-    is-14 a = rw (by-14 t bad away h (good-base (q .position) l) a)
+    is-14 a = rw (h, good-base (q .position) l, a)
 
     module _ (a : away ≡ false) where
-      none : questionRefusal t bad away ≡ 0
-      none = by-none t bad away h (good-base (q .position) l) a
-
       pub is-20 : q .chromosome ≡ 25 → 20 ≡ openingRefusal t w q
       unfolding openingRefusal
-      is-20 c = rw (none, eq-eqb (q .chromosome) 25 c)
+      is-20 c = rw (h, good-base (q .position) l, a, eq-eqb (q .chromosome) 25 c)
 
       module _ (c : q .chromosome ≡ 25 → ⊥) where
         pub is-16 : badAlt q ≡ true → 16 ≡ openingRefusal t w q
         unfolding openingRefusal
-        is-16 b = rw (none, ne-eqb (q .chromosome) 25 c, b)
+        is-16 b = rw (h, good-base (q .position) l, a, ne-eqb (q .chromosome) 25 c, b)
 
         pub by-window : badAlt q ≡ false → windowRefusal w q ≡ openingRefusal t w q
         unfolding openingRefusal
-        by-window b = rw (none, ne-eqb (q .chromosome) 25 c, b)
+        by-window b = rw (h, good-base (q .position) l, a, ne-eqb (q .chromosome) 25 c, b)
 
   -- a call that is not refused so far asks within the limit
   pub opening-within : openingRefusal t w q ≡ 0 → q .position ≤ queryLimit

@@ -14,7 +14,8 @@ use Rattle.transcript.specs.Orient.{interval, orientBase, oriented}
 use Rattle.locate.specs.Place.{locate}
 use Rattle.locate.specs.PlaceKind.{isDistal, isCdsExon, placeOffset}
 use Rattle.footprint.specs.ShortIntron.{exonicSpliceSpill}
-use Rattle.transcript.specs.Question.{badInterval, isElsewhere, questionRefusal}
+use Rattle.transcript.specs.Admission.{admission}
+use Rattle.transcript.specs.Question.{badInterval, isElsewhere, queryRefusal}
 use Rattle.consequence.specs.declared.FetchedCodon.{FetchedCodon}
 use Rattle.consequence.specs.declared.Call.{Call}
 use Rattle.consequence.specs.declared.Called.{Called}
@@ -64,10 +65,11 @@ windowRefusal w q = refuse (not (inWindow w (q .position))) 17 (refuse (not (eqb
 -- the refusals that come before the place is known
 unfoldable pub openingRefusal : Transcript → Window → Call → ℕ
 openingRefusal t w q =
-    orElse (questionRefusal t (badInterval (q .position) (q .position + 1)) (isElsewhere t (q .chromosome) || isElsewhere t (w .chromosome)))
+    orElse (admission t)
+    (queryRefusal (badInterval (q .position) (q .position + 1)) (isElsewhere t (q .chromosome) || isElsewhere t (w .chromosome))
     (refuse (eqb (q .chromosome) mitochondrial) 20
     (refuse (badAlt q) 16
-    (windowRefusal w q)))
+    (windowRefusal w q))))
 
 -- the refusals of a place: distal, or coding with its codon not all in the window
 abbrev pub closingRefusal : Bool → Bool → ℕ

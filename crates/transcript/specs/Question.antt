@@ -15,9 +15,13 @@ badInterval s e = ltb queryLimit s || ltb queryLimit e || ltb e s
 abbrev pub isElsewhere : Transcript → ℕ → Bool
 isElsewhere t chromosome = not (eqb chromosome (t .model .chromosome))
 
--- 1 to 13, then 15 where the interval is bad, then 14 where a chromosome is not the transcript's
+-- 15 where the interval is bad, then 14 where a chromosome is not the transcript's, then what is judged later
+abbrev pub queryRefusal : Bool → Bool → ℕ → ℕ
+queryRefusal bad elsewhere later = refuse bad 15 (refuse elsewhere 14 later)
+
+-- 1 to 13, then 15, then 14
 unfoldable pub questionRefusal : Transcript → Bool → Bool → ℕ
-questionRefusal t bad elsewhere = orElse (admission t) (refuse bad 15 (refuse elsewhere 14 0))
+questionRefusal t bad elsewhere = orElse (admission t) (queryRefusal bad elsewhere 0)
 
 -- the refusal of a question about [s, e), which may be empty
 abbrev pub intervalRefusal : Transcript → ℕ → ℕ → ℕ → ℕ
