@@ -89,10 +89,10 @@ module _ (m : TranscriptModel) (xs : List Exon) (ps is ss es bs : List ℕ) wher
     counted-many h = let e = k .counted in omega arith
 
     pub place-refused : (c s e : ℕ) → 512 < t .count → Located.Refused 1 ≡ locateVariant sourceRanges records c s e
-    place-refused c s e h = is-refused records c s e 1 (omega arith) (too-many (counted-many h))
+    place-refused c s e h = is-refused sourceRanges records c s e 1 (omega arith) (too-many (counted-many h))
 
     pub call-refused : (w : Window) (q : Call) → 512 < t .count → Called.Refused 1 ≡ annotateSnv sourceRanges records w q
-    call-refused w q h = not-admitted records w q 1 (omega arith) (too-many (counted-many h))
+    call-refused w q h = not-admitted sourceRanges records w q 1 (omega arith) (too-many (counted-many h))
 
     -- the table's front is the records
     pub table-lent : t .count ≤ 512 → lent m (take (t .count) (t .starts)) (take (t .count) (t .ends)) ps is ss es bs ≡ records
