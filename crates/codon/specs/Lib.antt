@@ -1,5 +1,5 @@
 pub mod Bases
 pub mod Table
 pub mod Altered
-pub mod Published
 pub mod Display
+pub mod claims

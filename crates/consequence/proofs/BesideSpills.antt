@@ -18,7 +18,7 @@ use Rattle.transcript.proofs.Listed.{nowhere}
 use Rattle.footprint.specs.ShortIntron.{donorWindow, acceptorWindow, spillsInto}
 use Rattle.footprint.proofs.GapList.{gaps-length, gaps-at}
 use Rattle.footprint.proofs.BaseSpills.{donor-only, acceptor-only}
-use Rattle.locate.specs.Search.{Started}
+use Rattle.locate.specs.code.Search.{Started}
 use Rattle.locate.proofs.Sums.{starts-from}
 use Rattle.locate.proofs.Searching.{some-at}
 

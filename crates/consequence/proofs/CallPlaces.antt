@@ -27,7 +27,7 @@ use Rattle.consequence.specs.declared.region.Region.{Region}
 use Rattle.consequence.specs.Region.{regionOf}
 use Rattle.consequence.specs.Answer.{Columns, regionResult, placeResult}
 use Rattle.consequence.specs.Call.{callPlace, callCodon, badAlt, windowRefusal, openingRefusal, callRefusal, callResult, annotateSnv}
-use Rattle.consequence.specs.CallPlaces.{CodingCalls, CallOffsetsCount}
+use Rattle.consequence.specs.claims.CallPlaces.{CodingCalls, CallOffsetsCount}
 
 -- an answer keeps the place that it was made at
 in-region : (t : Oriented) (p : ℕ) (place : VariantLocation) (g : Region) (c : Columns) (terms : ℕ) → regionResult t p place g c terms .location ≡ place

@@ -25,7 +25,7 @@ use Rattle.consequence.specs.Window.{Window, windowFrom, baseAt, codingB
 use Rattle.consequence.specs.Reading.{cdsBase, fetchBases}
 use Rattle.consequence.specs.Answer.{placeResult}
 use Rattle.consequence.specs.Call.{addSpliceSpill, callPlace, callCodon, lacksCodon, openingRefusal, closingRefusal, callRefusal, callResult, annotateSnv}
-use Rattle.consequence.specs.AtPlace.{placeCalled}
+use Rattle.consequence.specs.code.AtPlace.{placeCalled}
 
 -- the spill added to an answer
 abbrev pub spilled : SpliceSpill → Called → Called

@@ -18,13 +18,13 @@ use Rattle.transcript.specs.Orient.{Interval, orient, orientBase}
 use Rattle.transcript.specs.Bases.{size}
 use Rattle.transcript.proofs.Listed.{nowhere, edges-at}
 use Rattle.locate.specs.Index.{cumulative}
-use Rattle.transcript.specs.Lent.{lentExons}
-use Rattle.locate.specs.Sums.{firstSum, Sums}
+use Rattle.transcript.specs.code.Lent.{lentExons}
+use Rattle.locate.specs.code.Sums.{firstSum, Sums}
 use Rattle.locate.proofs.PrefixSums.{cumulative-first, cumulative-next, sizes-at}
 use Rattle.locate.proofs.LentIndex.{sizes-turned}
 use Rattle.locate.proofs.Searching.{count, start-at}
 use Rattle.consequence.specs.Reading.{codingPosition}
-use Rattle.consequence.specs.Segments.{Segments, Held}
+use Rattle.consequence.specs.code.Segments.{Segments, Held}
 
 -- base d of [s, e) on the minus strand
 pub nth-minus : (s e d : ℕ) → d < e - s → e ≤ coordinateLimit → orientBase Minus (orient Minus s e .start + d) ≡ e - 1 - d

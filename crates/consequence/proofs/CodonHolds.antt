@@ -20,7 +20,7 @@ use Rattle.consequence.specs.declared.FetchedBase.{FetchedBase}
 use Rattle.consequence.specs.declared.FetchedCodon.{FetchedCodon}
 use Rattle.consequence.specs.Window.{Window, inWindow, byteAt, baseAt, codingFetched, codingBase}
 use Rattle.consequence.specs.Reading.{codingPosition, cdsBase, lengthAt, codonLength, codonOf, ifThere, fetchBases, fetchCodon}
-use Rattle.consequence.specs.CodingPositions.{codonByte, CodonHoldsBase}
+use Rattle.consequence.specs.claims.CodingPositions.{codonByte, CodonHoldsBase}
 use Rattle.consequence.proofs.Refusals.{opening-within}
 use Rattle.consequence.proofs.CodingPositions.{base-numbered}
 use Rattle.consequence.proofs.CallPlaces.{answers, call-admitted, call-window, call-location}

@@ -10,9 +10,9 @@ use Rattle.transcript.specs.Limits.{top}
 use Rattle.transcript.specs.Orient.{orient}
 use Rattle.transcript.specs.Bases.{basesIn}
 use Rattle.transcript.proofs.Listed.{nowhere}
-use Rattle.transcript.specs.Lent.{lentExons}
-use Rattle.locate.specs.Search.{Ready}
-use Rattle.locate.specs.Sums.{firstSum, Sums}
+use Rattle.transcript.specs.code.Lent.{lentExons}
+use Rattle.locate.specs.code.Search.{Ready}
+use Rattle.locate.specs.code.Sums.{firstSum, Sums}
 use Rattle.locate.proofs.Sums.{bases-le}
 use Rattle.locate.proofs.Offset.{read-sum}
 use Rattle.locate.proofs.Searching.{ascends, count, start-at, end-at, end-top}

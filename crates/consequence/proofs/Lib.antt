@@ -7,7 +7,6 @@ pub mod Regions
 pub mod ExonBases
 pub mod Preparing
 pub mod Calling
-pub mod Numbering
 pub mod BesideSpills
 pub mod CallPlaces
 pub mod CodingPositions

@@ -10,7 +10,7 @@ use Rattle.common.proofs.TestParts.{on-test}
 use Rattle.transcript.specs.Limits.{mitochondrial}
 use Rattle.transcript.specs.Transcript.{Transcript}
 use Rattle.transcript.specs.Admission.{admission}
-use Rattle.transcript.specs.Numbers.{admissionNumbers}
+use Rattle.transcript.specs.claims.Numbers.{admissionNumbers}
 use Rattle.transcript.specs.Question.{badInterval, isElsewhere}
 use Rattle.transcript.proofs.NumbersGiven.{among-refuse, among-else, among-in, given-by, admission-among}
 use Rattle.footprint.specs.declared.Ranges.{Ranges}
@@ -22,7 +22,8 @@ use Rattle.consequence.specs.declared.Called.{Called}
 use Rattle.consequence.specs.Window.{Window, inWindow, byteAt, baseAt}
 use Rattle.consequence.specs.Reading.{cdsBase, ifThere, codonOf, fetchBases}
 use Rattle.consequence.specs.Call.{isOutside, badAlt, openingRefusal, callPlace, callCodon, lacksCodon, closingRefusal, callRefusal, callResult, annotateSnv}
-use Rattle.consequence.specs.Numbers.{calledNumber, isAnswered, callNumbers, CallGiven, codonBaseNumber, fetchedCodonNumber, PositionNumbered, CodonNumbered, BasesNumbered}
+use Rattle.consequence.specs.Numbers.{calledNumber, isAnswered, codonBaseNumber, fetchedCodonNumber}
+use Rattle.consequence.specs.claims.Numbers.{callNumbers, CallGiven, PositionNumbered, CodonNumbered, BasesNumbered, BaseValued, CodonValued}
 
 module _ (r : Ranges) (t : Transcript) (w : Window) (q : Call) where
   opening-among : memb (openingRefusal t w q) callNumbers ≡ true
@@ -74,3 +75,11 @@ first-base n FetchedBase.OutsideWindow b c = refl
 pub basesNumbered : BasesNumbered
 unfolding fetchBases
 basesNumbered t view n k = first-base n (cdsBase t view k) (ifThere (ltb 1 n) (cdsBase t view (k + 1))) (ifThere (ltb 2 n) (cdsBase t view (k + 2)))
+
+pub baseValued : BaseValued
+unfolding baseAt
+baseValued outside w p = on-test (inWindow w p) (λ e. rw e (refl, refl)) (λ e. rw e (refl, refl))
+
+pub codonValued : CodonValued
+unfolding fetchBases
+codonValued t view n k a b c x y z = rw (x, y, z)

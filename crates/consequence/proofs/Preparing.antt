@@ -23,9 +23,9 @@ use Rattle.locate.specs.declared.IndexScalars.{IndexScalars}
 use Rattle.locate.specs.Index.{selenocysteineCodons}
 use Rattle.locate.specs.Place.{cdsOffset, cdnaPosition, locate}
 use Rattle.locate.specs.PlaceKind.{isCdsExon, placeOffset}
-use Rattle.transcript.specs.Lent.{lentExons}
-use Rattle.locate.specs.Search.{Ready}
-use Rattle.locate.specs.Sums.{firstSum, Sums}
+use Rattle.transcript.specs.code.Lent.{lentExons}
+use Rattle.locate.specs.code.Search.{Ready}
+use Rattle.locate.specs.code.Sums.{firstSum, Sums}
 use Rattle.locate.proofs.Coding.{coding-place, coding-offset}
 use Rattle.locate.proofs.Offset.{CdnaOf, index-cdna}
 use Rattle.locate.proofs.CodedBases.{ready-coded}
@@ -34,9 +34,9 @@ use Rattle.locate.proofs.LentIndex.{exonic, coding, total, coded}
 use Rattle.consequence.specs.declared.FetchedCodon.{FetchedCodon}
 use Rattle.consequence.specs.declared.region.Region.{Region}
 use Rattle.consequence.specs.Region.{regionOf}
-use Rattle.consequence.specs.AtPlace.{regionCalled, placeCalled}
-use Rattle.consequence.specs.Segments.{Segments}
-use Rattle.consequence.specs.Prepared.{Prepared}
+use Rattle.consequence.specs.code.AtPlace.{regionCalled, placeCalled}
+use Rattle.consequence.specs.code.Segments.{Segments}
+use Rattle.consequence.specs.code.Prepared.{Prepared}
 use Rattle.consequence.proofs.Regions.{by-region, Here, AtRegion, placed, coding-region}
 
 -- the bases before p are at most all of them, and fewer where p is one of them

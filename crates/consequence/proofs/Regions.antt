@@ -26,7 +26,7 @@ use Rattle.consequence.specs.declared.region.Region.{Region}
 use Rattle.consequence.specs.Answer.{codonColumns, codonResult, placeResult}
 use Rattle.consequence.specs.Call.{isOutside, closingRefusal}
 use Rattle.consequence.specs.Region.{regionOf}
-use Rattle.consequence.specs.AtPlace.{codingCalled, regionCalled, placeCalled}
+use Rattle.consequence.specs.code.AtPlace.{codingCalled, regionCalled, placeCalled}
 
 -- the answer from the region is the answer at the place
 module _ (code : List ℕ) (t : Oriented) (p alt : ℕ) (codon : ℕ → FetchedCodon) where

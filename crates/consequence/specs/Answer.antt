@@ -15,7 +15,6 @@ use Rattle.consequence.specs.declared.FetchedCodon.{FetchedCodon}
 use Rattle.consequence.specs.declared.Numbered.{Numbered}
 use Rattle.consequence.specs.declared.Counted.{Counted}
 use Rattle.consequence.specs.declared.CdnaCounted.{CdnaCounted}
-use Rattle.consequence.specs.declared.columns.CodonColumns.{CodonColumns}
 use Rattle.consequence.specs.declared.ConsequenceResult.{ConsequenceResult}
 use Rattle.consequence.specs.declared.region.Region.{Region}
 use Rattle.terms.specs.declared.Consequence.the-variants.{IncompleteTerminalCodonVariant, CodingSequenceVariant}
@@ -65,10 +64,6 @@ pub record Columns : Type 0 where
   pub codons : Codons
   pub letters : AminoAcids
   pub terms : ℕ
-
--- the same as the code hands it on
-abbrev pub columnsOf : CodonColumns → Columns
-columnsOf c = record { position = c .position; number = c .number; codons = c .codons; letters = c .letters; terms = c .terms .0 }
 
 -- a base that is not coding has no codon
 abbrev pub noCodon : Columns

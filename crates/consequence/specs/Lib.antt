@@ -5,8 +5,5 @@ pub mod Region
 pub mod Answer
 pub mod Call
 pub mod Numbers
-pub mod AtPlace
-pub mod Segments
-pub mod Prepared
-pub mod CallPlaces
-pub mod CodingPositions
+pub mod code
+pub mod claims

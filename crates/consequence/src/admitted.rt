@@ -14,7 +14,7 @@ ghost use mathlib.Core.Path.{_≡_};
 ghost use Rattle.transcript.specs.Transcript.{given, wasGiven};
 ghost use Rattle.consequence.specs.Window.{windowWasGiven};
 ghost use Rattle.consequence.specs.Call.{annotateSnv};
-ghost use Rattle.consequence.specs.Prepared.{Prepared};
+ghost use Rattle.consequence.specs.code.Prepared.{Prepared};
 
 // The answer from the transcript's index, or the number of the refusal: 15, 14, 20, 16, 17, 18, 19 and 21.
 pub fn annotate_admitted(

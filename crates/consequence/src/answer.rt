@@ -16,7 +16,8 @@ ghost use Prim.Native.Nat.{ℕ, _<_};
 ghost use lib.ListN.{length};
 ghost use Rattle.transcript.specs.Orient.{Oriented};
 ghost use Rattle.locate.specs.Place.{cdnaPosition};
-ghost use Rattle.consequence.specs.Answer.{flankResult, intronResult, exonResult, columnsOf};
+ghost use Rattle.consequence.specs.Answer.{flankResult, intronResult, exonResult};
+ghost use Rattle.consequence.specs.code.AtPlace.{columnsOf};
 ghost use Rattle.consequence.specs.Call.{addSpliceSpill};
 
 // Outside the transcript.

@@ -10,9 +10,9 @@ ghost use Prim.Native.Nat.{_+_, _≤_, _<_};
 ghost use lib.ListN.{length, getD};
 ghost use Rattle.transcript.specs.Orient.{interval};
 ghost use Rattle.transcript.specs.Bases.{basesIn};
-ghost use Rattle.transcript.specs.Lent.{lentExons};
-ghost use Rattle.locate.specs.Search.{Ready};
-ghost use Rattle.locate.specs.Sums.{firstSum, Sums};
+ghost use Rattle.transcript.specs.code.Lent.{lentExons};
+ghost use Rattle.locate.specs.code.Search.{Ready};
+ghost use Rattle.locate.specs.code.Sums.{firstSum, Sums};
 
 // The position of p, an oriented base of exon i: the exonic bases before the exon and its place there, from 1.
 pub(crate) fn compute_cdna_position_exonic(

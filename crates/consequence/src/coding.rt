@@ -21,14 +21,14 @@ ghost use lib.ListN.{length, getD};
 ghost use Rattle.codon.specs.Table.{standardTable};
 ghost use Rattle.transcript.specs.Limits.{top};
 ghost use Rattle.transcript.specs.Orient.{Oriented};
-ghost use Rattle.transcript.specs.Lent.{lentExons};
+ghost use Rattle.transcript.specs.code.Lent.{lentExons};
 ghost use Rattle.locate.specs.Place.{cdnaPosition};
 ghost use Rattle.common.specs.Stored.{filled};
 ghost use Rattle.locate.specs.Index.{selenocysteineCodons, indexScalars};
 ghost use Rattle.consequence.specs.Window.{windowFrom, codingByte, codingBase};
 ghost use Rattle.consequence.specs.Reading.{fetchCodon};
-ghost use Rattle.consequence.specs.AtPlace.{codingCalled};
-ghost use Rattle.consequence.specs.Segments.{Segments};
+ghost use Rattle.consequence.specs.code.AtPlace.{codingCalled};
+ghost use Rattle.consequence.specs.code.Segments.{Segments};
 
 // A base of exon i at that padded offset, of that codon and place in it, marked or not, with `alt_base` put in. Refusal 21 where the
 // codon is not all in the window.
@@ -70,7 +70,7 @@ pub(crate) fn annotate_cds_snv(
         → now codons.entry ≡ filled 64 (selenocysteineCodons t)
         → cdnaPosition t p ≡ scalars .«utr5_exonic_len» + (offset - scalars .«cds_start_pad») + 1
         → r ≡ codingCalled standardTable t p (codingByte strand «alt_base»)
-            place i offset number position mark (fetchCodon t base offset)) ⌝ }
+        place i offset number position mark (fetchCodon t base offset)) ⌝ }
 {
     let codon = fetch_ref_codon(scalars, strand, starts, ends, sums, first, bytes, offset);
     let FetchedCodon::Bases(c) = codon else {

@@ -19,7 +19,8 @@ ghost use Rattle.transcript.specs.Orient.{Oriented};
 ghost use Rattle.codon.specs.Table.{standardTable, buildAltCodon};
 ghost use Rattle.consequence.specs.Reading.{isIncompleteTerminalCodon, holdsSelenocysteine};
 ghost use Rattle.consequence.specs.Coding.{isStartCodon, isPaddedCodon};
-ghost use Rattle.consequence.specs.Answer.{columnsOf, noCodon, incompleteCodon, wholeCodon, readCodon};
+ghost use Rattle.consequence.specs.code.AtPlace.{columnsOf};
+ghost use Rattle.consequence.specs.Answer.{noCodon, incompleteCodon, wholeCodon, readCodon};
 
 // What an exon base gives to an answer, from its codon where it is coding.
 pub struct CodonColumns {

@@ -21,8 +21,8 @@ ghost use Rattle.transcript.specs.Orient.{oriented};
 ghost use Rattle.locate.specs.Place.{locate};
 ghost use Rattle.consequence.specs.Window.{windowFrom, codingByte};
 ghost use Rattle.consequence.specs.Call.{callCodon};
-ghost use Rattle.consequence.specs.AtPlace.{placeCalled};
-ghost use Rattle.consequence.specs.Prepared.{Prepared};
+ghost use Rattle.consequence.specs.code.AtPlace.{placeCalled};
+ghost use Rattle.consequence.specs.code.Prepared.{Prepared};
 
 // `place` is that of p, an oriented base, and `alt_base` is put in there. Refusals 19 and 21.
 pub(crate) fn annotate_place(

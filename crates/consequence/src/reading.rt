@@ -13,11 +13,11 @@ ghost use lib.ListN.{length, getD};
 ghost use Rattle.transcript.specs.Limits.{coordinateLimit};
 ghost use Rattle.transcript.specs.Orient.{Oriented, orient, orientBase};
 ghost use Rattle.locate.specs.Place.{totalCdsLength};
-ghost use Rattle.transcript.specs.Lent.{lentExons};
+ghost use Rattle.transcript.specs.code.Lent.{lentExons};
 ghost use Rattle.consequence.specs.declared.FetchedCodon.{FetchedCodon};
 ghost use Rattle.consequence.specs.Window.{windowFrom, codingBase};
 ghost use Rattle.consequence.specs.Reading.{cdsBase, incompleteAt, lengthAt, fetchCodon};
-ghost use Rattle.consequence.specs.Segments.{Segments, Held};
+ghost use Rattle.consequence.specs.code.Segments.{Segments, Held};
 
 // Base d of [s, e) in strand order, as a coordinate.
 fn nth_base(strand: Strand, s: u64, e: u64, d: u64) -> u64

@@ -4,7 +4,7 @@ ghost use mathlib.Core.Bool.{cond};
 ghost use Prim.Native.Nat.{_+_, _≤_, _<_};
 ghost use lib.ListN.{length, getD};
 ghost use lib.Dec.{ltb};
-ghost use Rattle.consequence.specs.Segments.{Held};
+ghost use Rattle.consequence.specs.code.Segments.{Held};
 
 // Of `count` segments the one that holds padded offset k, and the first for a pad place: a binary search.
 pub(crate) fn segment_of(sums: &[u32], count: usize, k: u32) -> usize

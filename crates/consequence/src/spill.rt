@@ -11,10 +11,10 @@ ghost use Rattle.common.specs.Lists.{any};
 ghost use Rattle.transcript.specs.Limits.{top};
 ghost use Rattle.transcript.specs.Orient.{interval, Oriented};
 ghost use Rattle.transcript.specs.Bases.{gaps};
-ghost use Rattle.transcript.specs.Lent.{lentExons};
-ghost use Rattle.footprint.specs.Lent.{lentGaps};
+ghost use Rattle.transcript.specs.code.Lent.{lentExons};
+ghost use Rattle.footprint.specs.code.Lent.{lentGaps};
 ghost use Rattle.footprint.specs.ShortIntron.{isFrameshiftGap, donorWindow, acceptorWindow, spillsInto, exonicSpliceSpill};
-ghost use Rattle.locate.specs.Search.{Ready, Started};
+ghost use Rattle.locate.specs.code.Search.{Ready, Started};
 
 // Whether p, an oriented base, hits a donor window; n exons start at or before it.
 fn hits_donor(starts: &[u64], ends: &[u64], strand: Strand, n: usize, p: u64) -> bool

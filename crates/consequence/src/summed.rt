@@ -10,7 +10,7 @@ ghost use mathlib.Core.Path.{_≡_};
 ghost use Rattle.transcript.specs.Transcript.{given, wasGiven};
 ghost use Rattle.consequence.specs.Window.{windowWasGiven};
 ghost use Rattle.consequence.specs.Call.{annotateSnv};
-ghost use Rattle.consequence.specs.Prepared.{Summed};
+ghost use Rattle.consequence.specs.code.Prepared.{Summed};
 
 // The answer from the cumulative lengths of exons and CDS and whether there is a short intron, or the number of the refusal: 15,
 // 14, 20, 16, 17, 18, 19 and 21.

@@ -17,9 +17,9 @@ use Rattle.common.specs.Little.{at1}
 use Rattle.common.specs.Stored.{filled}
 use Rattle.deck.specs.Records.{recordCount, kindOf, word}
 use Rattle.deck.specs.Walk.{walkDeck}
-use Rattle.deck.specs.Order.{orderOf}
+use Rattle.deck.specs.code.Order.{orderOf}
 use Rattle.deck.specs.Deck.{badLength, structureOf, partsOf, admitted, readDeck, deckTranscripts}
-use Rattle.deck.specs.Table.{column, numberOf, tableOf, emptyTable, rowsFrom, tableTranscripts, admitRows, admitTable, deckAs, deckOf}
+use Rattle.deck.specs.code.Table.{column, numberOf, tableOf, emptyTable, rowsFrom, tableTranscripts, admitRows, admitTable, deckAs, deckOf}
 use Rattle.deck.proofs.Grown.{walk-order}
 use Rattle.deck.proofs.Distinct.{walk-few}
 use Rattle.deck.proofs.Tabled.{rows-transcripts}

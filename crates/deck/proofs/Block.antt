@@ -11,9 +11,9 @@ use borrow.Author.Tests.{eq-eqb, ne-eqb}
 use Rattle.deck.specs.declared.rows.Rows.{Rows}
 use Rattle.deck.specs.Records.{kindOf, markOf, word}
 use Rattle.deck.specs.Walk.{Parts}
-use Rattle.deck.specs.Reached.{boundsList}
+use Rattle.deck.specs.code.Reached.{boundsList}
 use Rattle.deck.specs.Deck.{cdsAt, transcriptOf}
-use Rattle.deck.specs.Table.{column, numberOf, rowsAt, boundsBetween, modelIn, transcriptIn, transcriptAt, tableOf}
+use Rattle.deck.specs.code.Table.{column, numberOf, rowsAt, boundsBetween, modelIn, transcriptIn, transcriptAt, tableOf}
 use Rattle.deck.proofs.Grown.{Kinds}
 use Rattle.deck.proofs.Runs.{rows-made}
 use Rattle.deck.proofs.KindRuns.{firstKind, first-other}

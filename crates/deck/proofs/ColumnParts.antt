@@ -6,7 +6,7 @@ use mathlib.Core.List.{List, [], _∷_, _++_, map, append-assoc}
 use native.Mathlib.Omega.{arith}
 use lib.ListN.{length, getD, take, drop, replicate, length-map}
 use lib.Seq.{take-at, drop-at, getD-append-add}
-use Rattle.deck.specs.Table.{column, part}
+use Rattle.deck.specs.code.Table.{column, part}
 
 pub map-join : (f : ℕ → ℕ) (xs ys : List ℕ) → map f (xs ++ ys) ≡ map f xs ++ map f ys
 map-join f [] ys = refl

@@ -6,8 +6,8 @@ use mathlib.Core.List.{List, map}
 use native.Mathlib.Omega.{arith}
 use lib.ListN.{length, getD, set, length-map}
 use Rattle.common.proofs.Filling.{front, front-step, front-done, map-at}
-use Rattle.deck.specs.Reached.{InDeck}
-use Rattle.deck.specs.Table.{column}
+use Rattle.deck.specs.code.Reached.{InDeck}
+use Rattle.deck.specs.code.Table.{column}
 
 module _ (f : ℕ → ℕ) (order : List ℕ) (i : ℕ) where
   pub column-step : length order ≤ 4096 → i < length order → {v : ℕ} → v ≡ f (getD order i 0)

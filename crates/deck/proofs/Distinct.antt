@@ -12,7 +12,7 @@ use Rattle.common.proofs.Counting.{count-either}
 use Rattle.common.specs.Lists.{any, memb, countBelow}
 use Rattle.deck.specs.Records.{recordCount, kindOf, nextOf, half}
 use Rattle.deck.specs.Walk.{badLink, Chain, chained, broken, prepend, chainFrom, chain, Step, read, failed, follow, walkCoding, walkBounds, walkTranscript, Walk, walked, stopped, addParts, onward, transcriptsFrom, walkDeck}
-use Rattle.deck.specs.Order.{orderOf}
+use Rattle.deck.specs.code.Order.{orderOf}
 
 -- numbers below n, none of them twice
 abbrev Distinct : ℕ → List ℕ → Type 0

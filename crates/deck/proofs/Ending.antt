@@ -12,8 +12,8 @@ use borrow.Author.Tests.{lt-ltb, le-ltb}
 use Rattle.common.specs.Lists.{memb}
 use Rattle.deck.specs.declared.walk.Walked.the-variants.{All, Bad}
 use Rattle.deck.specs.Records.{recordCount, lowest}
-use Rattle.deck.specs.Walk.{Walk, walked, stopped, walkDeck}
-use Rattle.deck.specs.Order.{firstUnreached, walkedAs, orderOf, WalkEnds}
+use Rattle.deck.specs.Walk.{Walk, walked, stopped, walkDeck, firstUnreached, walkedAs}
+use Rattle.deck.specs.code.Order.{orderOf, WalkEnds}
 use Rattle.deck.proofs.Ways.{ended, bad, walkWay}
 use Rattle.deck.proofs.Grown.{both-back}
 use Rattle.deck.proofs.Reached.{Reached}

@@ -11,9 +11,9 @@ use borrow.Author.Tests.{eqb-true, leb-false}
 use Rattle.common.specs.Lists.{memb}
 use Rattle.deck.specs.Records.{recordCount, kindOf, nextOf, half}
 use Rattle.deck.specs.Walk.{badLink, Chain, chained, broken, prepend, chainFrom, chain, Parts, Step, read, failed, follow, walkCoding, walkBounds, walkTranscript, Walk, walked, stopped, addParts, onward, transcriptsFrom, walkDeck}
-use Rattle.deck.specs.Order.{orderOf}
+use Rattle.deck.specs.code.Order.{orderOf}
 use Rattle.deck.specs.Deck.{partsOf}
-use Rattle.deck.specs.Reached.{boundsList, recordsOf}
+use Rattle.deck.specs.code.Reached.{boundsList, recordsOf}
 
 abbrev pub Is : List ℕ → ℕ → ℕ → Type 0
 Is d kind i = (kindOf d i ≡ kind) × (i < recordCount d)

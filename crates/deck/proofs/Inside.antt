@@ -4,9 +4,9 @@ use Prim.Native.Nat.{ℕ, zero, suc}
 use mathlib.Core.List.{List, [], _∷_, _++_}
 use native.Mathlib.Omega.{arith}
 use Rattle.deck.specs.Walk.{Parts, walkDeck}
-use Rattle.deck.specs.Order.{orderOf}
+use Rattle.deck.specs.code.Order.{orderOf}
 use Rattle.deck.specs.Deck.{partsOf}
-use Rattle.deck.specs.Reached.{InDeck, boundsList, recordsOf}
+use Rattle.deck.specs.code.Reached.{InDeck, boundsList, recordsOf}
 use Rattle.deck.proofs.Grown.{Kind, AllKinds, walk-order}
 
 -- every record stands in the deck

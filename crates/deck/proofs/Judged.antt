@@ -10,10 +10,10 @@ use lib.Dec.{ltb}
 use borrow.Author.Tests.{eq-eqb, ne-eqb, lt-ltb, le-ltb}
 use Rattle.deck.specs.declared.structure.Structure.{Structure}
 use Rattle.deck.specs.Records.{recordCount, nextOf}
-use Rattle.deck.specs.Walk.{walkDeck}
+use Rattle.deck.specs.Walk.{walkDeck, walkedAs}
 use Rattle.deck.specs.declared.walk.Walked.{Walked}
 use Rattle.deck.specs.declared.walk.Walked.the-variants.{All, Bad}
-use Rattle.deck.specs.Order.{walkedAs, below}
+use Rattle.deck.specs.code.Order.{below}
 use Rattle.deck.specs.Deck.{badLength, firstBad, linkAnswer, structureOf}
 
 -- a refusal is no order

@@ -11,7 +11,7 @@ use lib.Dec.{eqb}
 use borrow.Author.Tests.{eq-eqb, ne-eqb, lt-ltb}
 use Rattle.common.proofs.Filling.{map-at}
 use Rattle.deck.specs.Records.{kindOf, lowest}
-use Rattle.deck.specs.Table.{column, isKind, runEnd, boundsEnd}
+use Rattle.deck.specs.code.Table.{column, isKind, runEnd, boundsEnd}
 use Rattle.deck.proofs.Grown.{Kind}
 use Rattle.deck.proofs.ColumnParts.{column-drop}
 

@@ -1,14 +1,16 @@
 -- Demand 1 of reading a deck.
 -- Assumes nothing.
 use Prim.Native.Nat.{ℕ}
-use mathlib.Core.Path.{refl}
+use mathlib.Core.Path.{_≡_, refl}
+use mathlib.Core.Bool.{cond}
 use mathlib.Core.List.{List, [], _∷_}
 use lib.Dec.{ltb, eqb}
 use Rattle.common.specs.Lists.{any, all}
 use Rattle.common.proofs.TestParts.{on-test}
 use Rattle.transcript.specs.declared.Admission.{Admission}
 use Rattle.transcript.specs.Admission.{admissionOf}
-use Rattle.transcript.specs.Numbers.{NumberGiven, admissionNumber, admissionNumbers, isAdmitted}
+use Rattle.transcript.specs.claims.Numbers.{NumberGiven, admissionNumbers}
+use Rattle.transcript.specs.Numbers.{admissionNumber, isAdmitted}
 use Rattle.transcript.proofs.NumbersGiven.{among-in, admissionGiven}
 use Rattle.deck.specs.declared.DeckAnswer.{DeckAnswer}
 use Rattle.deck.specs.declared.DeckAnswer.the-variants.{Accepted, Refused}
@@ -16,11 +18,11 @@ use Rattle.deck.specs.declared.structure.Structure.{Structure}
 use Rattle.deck.specs.declared.walk.Walked.{Walked}
 use Rattle.deck.specs.declared.walk.Walked.the-variants.{All, Bad}
 use Rattle.deck.specs.Records.{recordCount, nextOf}
-use Rattle.deck.specs.Walk.{Parts, walkDeck}
-use Rattle.deck.specs.Order.{walkedAs}
-use Rattle.deck.specs.Deck.{transcriptOf, admittedThen, admitAll, badLength, firstBad, linkAnswer, structureOf, partsOf, admitted, readDeck, deckNumber}
-use Rattle.deck.specs.Table.{deckOf}
-use Rattle.deck.specs.Numbers.{isAccepted, deckNumbers, DeckGiven}
+use Rattle.deck.specs.Walk.{Parts, walkDeck, walkedAs}
+use Rattle.deck.specs.Deck.{transcriptOf, admittedThen, admitAll, badLength, firstBad, linkAnswer, structureOf, partsOf, admitted, readDeck}
+use Rattle.deck.specs.Numbers.{deckNumber, deckRecord, deckValues, isAccepted}
+use Rattle.deck.specs.code.Table.{deckOf}
+use Rattle.deck.specs.claims.Numbers.{deckNumbers, DeckGiven, DeckValued}
 
 -- the number of an answer is one of a deck's, 0 exactly where the deck is accepted
 abbrev Given : DeckAnswer → Type 0
@@ -63,3 +65,11 @@ module _ (d : List ℕ) where
 pub deckGiven : DeckGiven
 unfolding deckOf readDeck
 deckGiven d = structure-given d
+
+answer-valued : (a : DeckAnswer) → deckValues a ≡ cond (isAccepted a) [] (deckRecord a ∷ [])
+answer-valued Accepted = refl
+answer-valued (Refused n i) = refl
+
+pub deckValued : DeckValued
+unfolding deckOf
+deckValued d = answer-valued (readDeck d)

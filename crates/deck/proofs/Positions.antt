@@ -10,9 +10,9 @@ use lib.Dec.{eqb}
 use borrow.Author.Tests.{eq-eqb}
 use Rattle.transcript.specs.Transcript.{exonsOf, segmentsOf, evenLists}
 use Rattle.deck.specs.Records.{kindOf, markOf, word}
-use Rattle.deck.specs.Reached.{boundsList}
+use Rattle.deck.specs.code.Reached.{boundsList}
 use Rattle.deck.specs.Deck.{exonAt, segmentAt}
-use Rattle.deck.specs.Table.{column, numberOf, part, runEnd, boundsEnd}
+use Rattle.deck.specs.code.Table.{column, numberOf, part, runEnd, boundsEnd}
 use Rattle.deck.proofs.Grown.{Kind}
 use Rattle.deck.proofs.ColumnParts.{column-first, column-part}
 use Rattle.deck.proofs.KindRuns.{firstKind, run-of, bounds-of}

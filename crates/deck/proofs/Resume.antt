@@ -10,7 +10,7 @@ use borrow.Author.Tests.{eqb-true}
 use Rattle.deck.specs.declared.links.Link.{Link}
 use Rattle.deck.specs.Records.{recordCount, nextOf, half}
 use Rattle.deck.specs.Walk.{badLink, chainFrom, chain}
-use Rattle.deck.specs.Links.{exonLink, segmentLink, nextLink, boundsAfter}
+use Rattle.deck.specs.code.Links.{exonLink, segmentLink, nextLink, boundsAfter}
 use Rattle.deck.proofs.Ways.{Way, ended, bad, chainWay, goOn, codingWay, boundsWay, chain-way}
 
 -- what follows once record `at` of a kind is reached; f is the fuel of the chain that it stands in

@@ -12,7 +12,7 @@ use Rattle.transcript.specs.declared.TranscriptModel.{TranscriptModel}
 use Rattle.transcript.specs.Transcript.{exonsOf, lent}
 use Rattle.deck.specs.declared.rows.Rows.{Rows}
 use Rattle.deck.specs.Deck.{strandOf, startComplete, txBounds}
-use Rattle.deck.specs.Table.{runEnd, boundsEnd, rowsAt, part, boundsBetween, modelIn, transcriptIn}
+use Rattle.deck.specs.code.Table.{runEnd, boundsEnd, rowsAt, part, boundsBetween, modelIn, transcriptIn}
 
 pub rows-made : (kinds : List ℕ) (k : ℕ) {a b g s : ℕ} → a ≡ runEnd kinds 3 (k + 1) → b ≡ boundsEnd kinds a → g ≡ runEnd kinds 4 b → s ≡ runEnd kinds 5 g
     → _≡_ {A = Rows} (record { exons = a; bounds = b; segments = g; bases = s }) (rowsAt kinds k)

@@ -7,9 +7,9 @@ use native.Mathlib.Omega.{arith}
 use lib.ListN.{length, length-append}
 use Rattle.deck.specs.Records.{kindOf}
 use Rattle.deck.specs.Walk.{Parts}
-use Rattle.deck.specs.Reached.{boundsList, recordsOf}
+use Rattle.deck.specs.code.Reached.{boundsList, recordsOf}
 use Rattle.deck.specs.Deck.{transcriptOf, admitAll}
-use Rattle.deck.specs.Table.{column, tableOf, rowsAt, transcriptAt, admitRows}
+use Rattle.deck.specs.code.Table.{column, tableOf, rowsAt, transcriptAt, admitRows}
 use Rattle.deck.proofs.Grown.{AllKinds}
 use Rattle.deck.proofs.RowOrder.{rowsOn, rows-here, rows-none}
 use Rattle.deck.proofs.KindRuns.{firstKind, row-other}

@@ -12,10 +12,10 @@ use Rattle.common.proofs.TestParts.{on-test}
 use Rattle.deck.specs.declared.DeckAnswer.the-variants.{Accepted}
 use Rattle.deck.specs.declared.structure.Structure.{Structure}
 use Rattle.deck.specs.Records.{recordCount, nextOf}
-use Rattle.deck.specs.Walk.{badLink, Step, read, failed, walkTranscript, Walk, walked, stopped, addParts, onward, transcriptsFrom, walkDeck}
-use Rattle.deck.specs.Order.{orderOf, walkedAs}
+use Rattle.deck.specs.Walk.{badLink, Step, read, failed, walkTranscript, Walk, walked, stopped, addParts, onward, transcriptsFrom, walkDeck, walkedAs}
+use Rattle.deck.specs.code.Order.{orderOf}
 use Rattle.deck.specs.Deck.{badLength, firstBad, linkAnswer, structureOf, partsOf, transcriptOf, readDeck}
-use Rattle.deck.specs.Table.{tableOf, isKind, transcriptAt}
+use Rattle.deck.specs.code.Table.{tableOf, isKind, transcriptAt}
 use Rattle.deck.proofs.Judged.{never}
 use Rattle.deck.proofs.RowOrder.{rows-none}
 use Rattle.deck.proofs.Accepted.{sound-deck, accepted-transcripts}

@@ -11,7 +11,7 @@ use borrow.Author.Tests.{eq-eqb, ne-eqb}
 use Rattle.deck.specs.declared.links.Link.{Link}
 use Rattle.deck.specs.Records.{recordCount, kindOf, nextOf, half}
 use Rattle.deck.specs.Walk.{badLink, chainFrom, walkTranscript, transcriptsFrom, walkDeck}
-use Rattle.deck.specs.Links.{exonLink, segmentLink, nextLink, boundsAfter}
+use Rattle.deck.specs.code.Links.{exonLink, segmentLink, nextLink, boundsAfter}
 use Rattle.deck.proofs.Ways.{Way, ended, bad, chainWay, stepWay, walkWay, goOn, boundsWay, transcript-way, transcripts-way}
 use Rattle.deck.proofs.Resume.{resume, Resumed, exon-resume, after, after-resume}
 use Rattle.deck.proofs.Reached.{free, Reached, test-is, good-inside, fewer, one-more}

@@ -19,8 +19,7 @@ use Rattle.deck.specs.Records.{recordCount, markOf, nextOf, half, word, 
 use Rattle.deck.specs.declared.structure.Structure.{Structure}
 use Rattle.deck.specs.declared.walk.Walked.{Walked}
 use Rattle.deck.specs.declared.walk.Walked.the-variants.{All, Bad}
-use Rattle.deck.specs.Order.{walkedAs}
-use Rattle.deck.specs.Walk.{Parts, Walk, walked, stopped, walkDeck}
+use Rattle.deck.specs.Walk.{walkedAs, Parts, Walk, walked, stopped, walkDeck}
 
 abbrev pub exonAt : List ℕ → ℕ → Exon
 exonAt d i = record { «genomic_start» = word d i 4; «genomic_end» = word d i 8 }
@@ -112,12 +111,3 @@ readDeck d = admitted d (structureOf d)
 -- the transcripts of an accepted deck, in chain order
 abbrev pub deckTranscripts : List ℕ → List Transcript
 deckTranscripts d = map (transcriptOf d) (partsOf (walkDeck d))
-
--- the refusal number of each case, 0 where the deck is accepted, and the record named with it
-abbrev pub deckNumber : DeckAnswer → ℕ
-deckNumber Accepted = 0
-deckNumber (Refused n i) = n
-
-abbrev pub deckRecord : DeckAnswer → ℕ
-deckRecord Accepted = 0
-deckRecord (Refused n i) = i

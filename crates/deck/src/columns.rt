@@ -8,8 +8,8 @@ ghost use mathlib.Core.Path.{_≡_};
 ghost use lib.ListN.{length};
 ghost use Rattle.common.specs.Little.{at1};
 ghost use Rattle.deck.specs.Records.{word};
-ghost use Rattle.deck.specs.Reached.{InDeck};
-ghost use Rattle.deck.specs.Table.{column, numberOf};
+ghost use Rattle.deck.specs.code.Reached.{InDeck};
+ghost use Rattle.deck.specs.code.Table.{column, numberOf};
 
 // The records themselves.
 pub(crate) fn records_of(order: &[u16]) -> [u16; 4096]

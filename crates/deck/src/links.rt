@@ -3,7 +3,7 @@ use crate::record::half_of;
 ghost use Prim.Native.Nat.{_≤_, _<_};
 ghost use mathlib.Core.Path.{_≡_};
 ghost use Rattle.deck.specs.Records.{recordCount, half};
-ghost use Rattle.deck.specs.Links.{exonLink, segmentLink, nextLink, boundsAfter};
+ghost use Rattle.deck.specs.code.Links.{exonLink, segmentLink, nextLink, boundsAfter};
 
 // A link: the kind that it must lead to, the record that holds it, and the record that it leads to, 0 for none.
 pub struct Link {

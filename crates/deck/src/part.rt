@@ -3,7 +3,7 @@ use crate::rows::Rows;
 ghost use Prim.Native.Nat.{_+_, _-_};
 ghost use mathlib.Core.Path.{_≡_};
 ghost use lib.ListN.{length};
-ghost use Rattle.deck.specs.Table.{part, InOrder};
+ghost use Rattle.deck.specs.code.Table.{part, InOrder};
 
 // The exons' part of a column.
 pub fn exon_part(column: &[u64; 4096], k: usize, rows: Rows) -> &[u64]

@@ -23,9 +23,8 @@ ghost use Prim.Native.Nat.{_≤_};
 ghost use mathlib.Core.Path.{_≡_};
 ghost use lib.ListN.{length};
 ghost use Rattle.transcript.specs.Admission.{admissionOf};
-ghost use Rattle.deck.specs.Table.{InOrder, tableWasGiven, transcriptIn, rowsFrom, admitRows, admitTable};
-ghost use Rattle.deck.specs.Table.{tableOf, emptyTable, deckAs, deckOf};
-ghost use Rattle.deck.specs.Reached.{InDeck};
+ghost use Rattle.deck.specs.code.Table.{InOrder, tableWasGiven, transcriptIn, rowsFrom, admitRows, admitTable, tableOf, emptyTable, deckAs, deckOf};
+ghost use Rattle.deck.specs.code.Reached.{InDeck};
 ghost use Rattle.deck.specs.declared.DeckAnswer.the-variants.{Refused};
 
 // Whether the transcript at row k is admitted.

@@ -9,7 +9,7 @@ ghost use mathlib.Core.Path.{_≡_};
 ghost use lib.ListN.{length};
 ghost use Rattle.transcript.specs.Transcript.{exonsOf};
 ghost use Rattle.deck.specs.Deck.{strandOf, startComplete, txBounds};
-ghost use Rattle.deck.specs.Table.{runEnd, boundsEnd, rowsAt, InOrder, boundsBetween, modelIn};
+ghost use Rattle.deck.specs.code.Table.{runEnd, boundsEnd, rowsAt, InOrder, boundsBetween, modelIn};
 
 // Where the exons of a transcript, its bounds, its segments and its selenocysteine bases end.
 pub struct Rows {

@@ -1,17 +1,17 @@
 // The walk over the deck's links. The first bad link ends it.
+use super::record::RECORD_SIZE;
 use crate::links::bounds_after;
 use crate::links::exon_link;
 use crate::links::link_of;
 use crate::links::next_link;
 use crate::record::kind_of;
-use super::record::RECORD_SIZE;
 ghost use Prim.Native.Nat.{_≤_};
 ghost use mathlib.Core.Path.{_≡_};
 ghost use mathlib.Core.Bool.{_||_, not};
 ghost use lib.ListN.{length, getD};
 ghost use lib.Dec.{leb, eqb};
 ghost use Rattle.deck.specs.Records.{recordCount, kindOf, lowest};
-ghost use Rattle.deck.specs.Order.{WalkEnds};
+ghost use Rattle.deck.specs.code.Order.{WalkEnds};
 
 // How a walk ends: with all records reached, so many besides the head; or the record whose link is bad, else the lowest never reached.
 pub enum Walked {

@@ -12,7 +12,7 @@ use Rattle.terms.specs.declared.Consequence.{Consequence}
 use Rattle.terms.specs.declared.Consequence.the-variants.{SpliceRegionVariant}
 use Rattle.terms.specs.Severity.{severityRank}
 use Rattle.terms.specs.Terms.{holdsTerm}
-use Rattle.terms.specs.Held.{sameTerm}
+use Rattle.terms.specs.claims.Held.{sameTerm}
 use Rattle.terms.proofs.Holding.{holdsWithIf}
 use Rattle.terms.proofs.Ranked.{ranksDiffer}
 use Rattle.demands.specs.Carry.{Added, carryPlace, gainsTerm, carryResult, carryLocated, carryCalled}

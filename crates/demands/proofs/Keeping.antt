@@ -27,7 +27,7 @@ use Rattle.consequence.specs.Answer.{placeResult}
 use Rattle.consequence.specs.Call.{addSpliceSpill, callPlace, callCodon, openingRefusal, callRefusal, callResult, annotateSnv}
 use Rattle.demands.specs.Longer.{Longer, insideTranscript}
 use Rattle.demands.specs.Carry.{carryPlace, carryResult, carryLocated, carryCalled}
-use Rattle.demands.specs.Demands.{added, nearOuterEnd, callAt, LongerKeeps}
+use Rattle.demands.specs.claims.Demands.{added, nearOuterEnd, callAt, LongerKeeps}
 use Rattle.demands.proofs.Carrying.{kind-carry, offset-carry, cond-located, cond-called}
 use Rattle.demands.proofs.Around.{around-length, around-count}
 use Rattle.demands.proofs.Gaps.{around-spill}

@@ -18,7 +18,7 @@ use Rattle.consequence.specs.Answer.{placeResult}
 use Rattle.consequence.specs.Call.{openingRefusal, callRefusal, callResult, annotateSnv}
 use Rattle.terms.specs.Terms.{withTerm, withoutTerm, spillTerms}
 use Rattle.demands.specs.Longer.{endAtFrom, spacedUpTo, spacedFrom, Longer}
-use Rattle.demands.specs.Pairs.{shorter, longer, Pairs}
+use Rattle.demands.specs.claims.Pairs.{shorter, longer, Pairs}
 
 plus-longer : Longer (shorter Plus) (longer Plus)
 unfolding exonsOf segmentsOf oriented endAfter endAtFrom spacedUpTo spacedFrom

@@ -24,7 +24,7 @@ use Rattle.transcript.specs.Question.{badInterval, isElsewhere, questionRefusal
 use Rattle.transcript.proofs.Facts.{Facts}
 use Rattle.transcript.proofs.LentFacts.{admits}
 use Rattle.transcript.proofs.Asking.{interval-within}
-use Rattle.transcript.specs.Lent.{lentExons}
+use Rattle.transcript.specs.code.Lent.{lentExons}
 use Rattle.footprint.specs.Question.{answered, asked}
 
 never : (n : ℕ) → Admission.Admitted ≡ Admission.Refused n → ⊥

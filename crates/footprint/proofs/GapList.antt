@@ -14,8 +14,8 @@ use Rattle.transcript.specs.Orient.{Interval, interval, orient}
 use Rattle.transcript.specs.Bases.{size, gapsAfter, gaps}
 use Rattle.transcript.proofs.Listed.{nowhere, oriented-length, oriented-at}
 use Rattle.footprint.specs.Ranges.{frameshiftIntronMaxGap}
-use Rattle.transcript.specs.Lent.{lentExons}
-use Rattle.footprint.specs.Lent.{lentGaps}
+use Rattle.transcript.specs.code.Lent.{lentExons}
+use Rattle.footprint.specs.code.Lent.{lentGaps}
 use Rattle.footprint.specs.ShortIntron.{isFrameshiftGap}
 
 after-length : (e : ℕ) (xs : List Interval) → length (gapsAfter e xs) ≡ length xs

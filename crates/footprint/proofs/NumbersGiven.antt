@@ -11,7 +11,7 @@ use Rattle.transcript.specs.Orient.{Interval, oriented, orient}
 use Rattle.transcript.specs.Bases.{gaps}
 use Rattle.transcript.specs.Admission.{admission}
 use Rattle.transcript.specs.Question.{questionRefusal, intervalRefusal}
-use Rattle.transcript.specs.Numbers.{admissionNumbers}
+use Rattle.transcript.specs.claims.Numbers.{admissionNumbers}
 use Rattle.transcript.proofs.NumbersGiven.{among-in, question-among, admission-among, given-by}
 use Rattle.footprint.specs.declared.Flanked.{Flanked}
 use Rattle.footprint.specs.declared.Endpoint.{Endpoint}
@@ -19,7 +19,8 @@ use Rattle.footprint.specs.declared.Spilled.{Spilled}
 use Rattle.footprint.specs.Flank.{classifyFlank}
 use Rattle.footprint.specs.ShortIntron.{endsIn, endpointFrom, exonicSpliceSpill}
 use Rattle.footprint.specs.Question.{flank, shortIntron, spill}
-use Rattle.footprint.specs.Numbers.{flankedNumber, endpointNumber, spilledNumber, isFlanked, isEndpoint, isSpilled, questionNumbers, FlankGiven, ShortIntronGiven, SpillGiven}
+use Rattle.footprint.specs.Numbers.{flankedNumber, endpointNumber, spilledNumber, isFlanked, isEndpoint, isSpilled}
+use Rattle.footprint.specs.claims.Numbers.{questionNumbers, FlankGiven, ShortIntronGiven, SpillGiven}
 
 -- the refusals that every question shares
 pub refusal-among : (t : Transcript) (bad away : Bool) → memb (questionRefusal t bad away) questionNumbers ≡ true

@@ -1,7 +1,7 @@
 pub mod Ranges
-pub mod Lent
 pub mod Flank
 pub mod ShortIntron
 pub mod Question
 pub mod Numbers
-pub mod Marked
+pub mod code
+pub mod claims

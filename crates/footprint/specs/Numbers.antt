@@ -1,17 +1,14 @@
--- What each case of an answer stands for in document 01: its refusal number, 0 for an answer. Demand 1 of the three questions.
--- The values of each case: words/specs/IntervalWords.antt `flankWords` (kind, distance), `endpointWords` (whether there is an intron,
--- its index), `spillWords` (donor, acceptor).
+-- What each case of an answer about an interval stands for: its refusal number, 0 for an answer, and its values.
 use Prim.Native.Nat.{ℕ}
 use mathlib.Core.Bool.{Bool, true, false}
 use mathlib.Core.List.{List, [], _∷_}
-use Rattle.transcript.specs.Transcript.{Transcript}
-use Rattle.transcript.specs.Question.{intervalRefusal}
-use Rattle.transcript.specs.Numbers.{NumberGiven}
 use Rattle.footprint.specs.declared.Flanked.{Flanked}
 use Rattle.footprint.specs.declared.Endpoint.{Endpoint}
 use Rattle.footprint.specs.declared.Spilled.{Spilled}
-use Rattle.footprint.specs.declared.Ranges.{Ranges}
-use Rattle.footprint.specs.Question.{flank, shortIntron, spill}
+use lib.IntN.{ℤ, pos}
+use Rattle.footprint.specs.declared.Flank.{Flank}
+use Rattle.footprint.specs.declared.Flank.the-variants.{Overlaps, Upstream, Downstream, Far}
+use Rattle.common.specs.Flag.{flag}
 
 abbrev pub flankedNumber : Flanked → ℕ
 flankedNumber (Flanked.Beside f) = 0
@@ -39,20 +36,40 @@ abbrev pub isSpilled : Spilled → Bool
 isSpilled (Spilled.Spill s) = true
 isSpilled (Spilled.Refused n) = false
 
-abbrev pub questionNumbers : List ℕ
-questionNumbers = 0 ∷ 1 ∷ 2 ∷ 3 ∷ 4 ∷ 5 ∷ 6 ∷ 7 ∷ 8 ∷ 9 ∷ 10 ∷ 11 ∷ 12 ∷ 13 ∷ 15 ∷ 14 ∷ []
+-- its place in the order of declaration
+abbrev pub flankKind : Flank → ℕ
+flankKind Overlaps = 0
+flankKind (Upstream d) = 1
+flankKind (Downstream d) = 2
+flankKind Far = 3
 
-abbrev pub FlankGiven : Type 0
-FlankGiven =
-    (r : Ranges) (t : Transcript) (chromosome s e : ℕ) →
-    NumberGiven questionNumbers (intervalRefusal t chromosome s e) (flankedNumber (flank r t chromosome s e)) (isFlanked (flank r t chromosome s e))
+abbrev pub flankLength : Flank → ℕ
+flankLength Overlaps = 0
+flankLength (Upstream d) = d
+flankLength (Downstream d) = d
+flankLength Far = 0
 
-abbrev pub ShortIntronGiven : Type 0
-ShortIntronGiven =
-    (t : Transcript) (chromosome s e : ℕ) →
-    NumberGiven questionNumbers (intervalRefusal t chromosome s e) (endpointNumber (shortIntron t chromosome s e)) (isEndpoint (shortIntron t chromosome s e))
+-- kind and distance
+abbrev pub flankWords : Flanked → List ℤ
+flankWords (Flanked.Beside f) = pos (flankKind f) ∷ pos (flankLength f) ∷ []
+flankWords (Flanked.Refused n) = pos 0 ∷ pos 0 ∷ []
 
-abbrev pub SpillGiven : Type 0
-SpillGiven =
-    (t : Transcript) (chromosome s e : ℕ) →
-    NumberGiven questionNumbers (intervalRefusal t chromosome s e) (spilledNumber (spill t chromosome s e)) (isSpilled (spill t chromosome s e))
+-- 1 where an end lies in a short intron
+abbrev pub endpointFlag : Endpoint → ℕ
+endpointFlag (Endpoint.Intron i) = 1
+endpointFlag Endpoint.Nowhere = 0
+endpointFlag (Endpoint.Refused n) = 0
+
+-- the index of that intron
+abbrev pub endpointIndex : Endpoint → ℕ
+endpointIndex (Endpoint.Intron i) = i
+endpointIndex Endpoint.Nowhere = 0
+endpointIndex (Endpoint.Refused n) = 0
+
+abbrev pub endpointWords : Endpoint → List ℤ
+endpointWords e = pos (endpointFlag e) ∷ pos (endpointIndex e) ∷ []
+
+-- donor and acceptor
+abbrev pub spillWords : Spilled → List ℤ
+spillWords (Spilled.Spill s) = pos (flag (s .donor)) ∷ pos (flag (s .acceptor)) ∷ []
+spillWords (Spilled.Refused n) = pos 0 ∷ pos 0 ∷ []

@@ -13,7 +13,7 @@ ghost use mathlib.Core.Path.{_≡_};
 ghost use Prim.Native.Nat.{_-_, _^_, _<_};
 ghost use Rattle.transcript.specs.Transcript.{wasGiven};
 ghost use Rattle.footprint.specs.Ranges.{sourceRanges};
-ghost use Rattle.footprint.specs.Lent.{spanOf};
+ghost use Rattle.footprint.specs.code.Lent.{spanOf};
 ghost use Rattle.footprint.specs.Flank.{flankDistance, flankOf};
 ghost use Rattle.footprint.specs.Question.{flank};
 

@@ -19,8 +19,8 @@ ghost use Rattle.transcript.specs.Limits.{maxExons};
 ghost use Rattle.transcript.specs.Transcript.{exonsOf, wasGiven};
 ghost use Rattle.transcript.specs.Orient.{Oriented};
 ghost use Rattle.transcript.specs.Admission.{badExon};
-ghost use Rattle.transcript.specs.Lent.{lentExons};
-ghost use Rattle.footprint.specs.Lent.{spanOf};
+ghost use Rattle.transcript.specs.code.Lent.{lentExons};
+ghost use Rattle.footprint.specs.code.Lent.{spanOf};
 ghost use Rattle.footprint.specs.ShortIntron.{holdsEnd, endsIn, frameshiftIntronEndpoint};
 ghost use Rattle.footprint.specs.Question.{shortIntron};
 

@@ -6,7 +6,7 @@ ghost use mathlib.Core.Path.{_≡_};
 ghost use Prim.Native.Nat.{_≤_};
 ghost use Rattle.transcript.specs.Limits.{top};
 ghost use Rattle.transcript.specs.Orient.{orient};
-ghost use Rattle.footprint.specs.Lent.{spanOf};
+ghost use Rattle.footprint.specs.code.Lent.{spanOf};
 ghost use Rattle.footprint.specs.ShortIntron.{overlap};
 
 // The bases from `start` to just before `end`.

@@ -20,8 +20,8 @@ ghost use Rattle.transcript.specs.Limits.{top};
 ghost use Rattle.transcript.specs.Transcript.{exonsOf, wasGiven};
 ghost use Rattle.transcript.specs.Orient.{interval, Oriented};
 ghost use Rattle.transcript.specs.Admission.{badExon};
-ghost use Rattle.transcript.specs.Lent.{lentExons};
-ghost use Rattle.footprint.specs.Lent.{spanOf};
+ghost use Rattle.transcript.specs.code.Lent.{lentExons};
+ghost use Rattle.footprint.specs.code.Lent.{spanOf};
 ghost use Rattle.footprint.specs.ShortIntron.{isFrameshiftGap, hits, donorWindow, acceptorWindow, exonicSpliceSpill};
 ghost use Rattle.footprint.specs.Question.{spill};
 

@@ -16,8 +16,8 @@ use Rattle.transcript.specs.Orient.{Oriented, oriented}
 use Rattle.transcript.specs.Admission.{admission}
 use Rattle.locate.proofs.LentTranscript.{known, count, segment-count, coding-is}
 use Rattle.deck.specs.declared.rows.Rows.{Rows}
-use Rattle.deck.specs.Table.{part, InOrder, modelIn, transcriptIn}
-use Rattle.indexed.specs.TableIndex.{cdsRow}
+use Rattle.deck.specs.code.Table.{part, InOrder, modelIn, transcriptIn}
+use Rattle.indexed.specs.code.TableIndex.{cdsRow}
 use Rattle.indexed.proofs.SummedRows.{no-cds}
 
 part-le : (a b : ℕ) (l : List ℕ) → length (part a b l) ≤ b - a

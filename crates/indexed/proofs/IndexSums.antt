@@ -13,10 +13,10 @@ use Rattle.transcript.specs.Transcript.{Transcript}
 use Rattle.transcript.specs.Orient.{Interval, oriented}
 use Rattle.transcript.specs.Bases.{size}
 use Rattle.locate.specs.Index.{cumulative}
-use Rattle.locate.specs.Sums.{firstSum, Sums}
+use Rattle.locate.specs.code.Sums.{firstSum, Sums}
 use Rattle.locate.proofs.PrefixSums.{cumulative-length}
 use Rattle.locate.proofs.Offset.{first-sum, sums-of}
-use Rattle.indexed.specs.TableIndex.{isAdmitted, rowSums}
+use Rattle.indexed.specs.code.TableIndex.{isAdmitted, rowSums}
 
 -- sums of which nothing changed before row k
 pub record KeptBelow (k : ℕ) (before after : List ℕ) : Type 0 where

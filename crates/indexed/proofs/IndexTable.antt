@@ -13,12 +13,12 @@ use Rattle.common.proofs.TestParts.{on-test}
 use Rattle.transcript.specs.Transcript.{Transcript}
 use Rattle.transcript.specs.Orient.{oriented}
 use Rattle.transcript.specs.Admission.{admission}
-use Rattle.consequence.specs.Prepared.{Summed}
+use Rattle.consequence.specs.code.Prepared.{Summed}
 use Rattle.deck.specs.declared.DeckTable.{DeckTable}
 use Rattle.deck.specs.declared.rows.Rows.{Rows}
-use Rattle.deck.specs.Table.{rowsAt, InOrder, transcriptIn, transcriptAt}
+use Rattle.deck.specs.code.Table.{rowsAt, InOrder, transcriptIn, transcriptAt}
 use Rattle.indexed.specs.declared.TableIndex.{TableIndex}
-use Rattle.indexed.specs.TableIndex.{isAdmitted, rowIndex, rowSums, indexRow, cdsRow}
+use Rattle.indexed.specs.code.TableIndex.{isAdmitted, rowIndex, rowSums, indexRow, cdsRow}
 use Rattle.indexed.proofs.IndexSums.{KeptBelow, kept-row, sums-kept, first-kept}
 use Rattle.indexed.proofs.SummedRows.{summed-here}
 use Rattle.indexed.proofs.IndexRows.{exons-end, segments-end, cds-row-is, cds-end}

@@ -9,10 +9,10 @@ use lib.Dec.{eqb}
 use borrow.Author.Tests.{eqb-false}
 use Rattle.common.proofs.TestParts.{on-test}
 use Rattle.transcript.specs.Transcript.{Transcript}
-use Rattle.consequence.specs.Prepared.{Summed}
+use Rattle.consequence.specs.code.Prepared.{Summed}
 use Rattle.deck.specs.declared.rows.Rows.{Rows}
-use Rattle.deck.specs.Table.{InOrder}
-use Rattle.indexed.specs.TableIndex.{cdsRow}
+use Rattle.deck.specs.code.Table.{InOrder}
+use Rattle.indexed.specs.code.TableIndex.{cdsRow}
 
 -- the sums of the CDS begin inside the table
 pub row-low : (k : ℕ) (r : Rows) → InOrder k r → cdsRow k r < 4096

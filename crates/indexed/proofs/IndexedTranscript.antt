@@ -13,13 +13,13 @@ use Rattle.transcript.specs.declared.TranscriptModel.{TranscriptModel}
 use Rattle.transcript.specs.Transcript.{Transcript, exonsOf, lent}
 use Rattle.transcript.specs.Bases.{gaps}
 use Rattle.transcript.specs.Admission.{admission}
-use Rattle.transcript.specs.Lent.{exonSize, padOfPhases, lentExons}
+use Rattle.transcript.specs.code.Lent.{exonSize, padOfPhases, lentExons}
 use Rattle.footprint.specs.ShortIntron.{isFrameshiftGap}
 use Rattle.locate.specs.Index.{cumulative}
 use Rattle.locate.proofs.LentTranscript.{exons-are, coding-is, pad-is}
 use Rattle.locate.proofs.LentIndex.{exon-sizes, segment-sizes}
 use Rattle.indexed.specs.declared.row.RowIndex.{RowIndex}
-use Rattle.indexed.specs.TableIndex.{rowIndex, rowSums}
+use Rattle.indexed.specs.code.TableIndex.{rowIndex, rowSums}
 
 -- nothing is kept of a transcript that is refused
 pub refused-row : (t : Transcript) (row c : ℕ) (sums : List ℕ) → 0 < admission t → (_≡_ {A = RowIndex} (record { admitted = false; short = false }) (rowIndex t)) × (sums ≡ rowSums t row c sums)

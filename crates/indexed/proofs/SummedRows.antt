@@ -18,9 +18,9 @@ use Rattle.transcript.specs.Bases.{size, gaps}
 use Rattle.transcript.specs.Admission.{admission}
 use Rattle.footprint.specs.ShortIntron.{isFrameshiftGap}
 use Rattle.locate.specs.Index.{cumulative}
-use Rattle.locate.specs.Sums.{firstSum, Sums, ExonSums}
-use Rattle.consequence.specs.Prepared.{Summed}
-use Rattle.indexed.specs.TableIndex.{rowIndex, withExons, rowSums}
+use Rattle.locate.specs.code.Sums.{firstSum, Sums, ExonSums}
+use Rattle.consequence.specs.code.Prepared.{Summed}
+use Rattle.indexed.specs.code.TableIndex.{rowIndex, withExons, rowSums}
 use Rattle.indexed.proofs.IndexSums.{kept-all, kept-stored, first-kept, sums-kept, sums-stored}
 
 no-sums : (xs : List Interval) (l : List ℕ) → length xs ≡ 0 → 0 < length l → firstSum l ≤ 2 → Sums xs l

@@ -10,11 +10,11 @@ use borrow.Author.Tests.{eqb-true, eq-eqb, lt-ltb}
 use Rattle.common.proofs.TestParts.{on-test, and-true, true-false}
 use Rattle.deck.specs.declared.DeckTable.{DeckTable}
 use Rattle.deck.specs.declared.rows.Rows.{Rows}
-use Rattle.deck.specs.Table.{isKind, rowsAt, rowsFrom, transcriptIn}
+use Rattle.deck.specs.code.Table.{isKind, rowsAt, rowsFrom, transcriptIn}
 use Rattle.deck.proofs.RowOrder.{rowsOn, rows-here, rows-none, row-inside}
 use Rattle.indexed.specs.declared.TableIndex.{TableIndex}
 use Rattle.indexed.specs.declared.row.RowIndex.{RowIndex}
-use Rattle.indexed.specs.TableIndex.{rowIndex, rowSums, indexRow, indexRows, emptyIndex, tableIndex}
+use Rattle.indexed.specs.code.TableIndex.{rowIndex, rowSums, indexRow, indexRows, emptyIndex, tableIndex}
 use Rattle.indexed.proofs.IndexTable.{rowsIn, IndexedAt, Indexing, indexing-more}
 
 -- the rows left begin with one at which a transcript stands

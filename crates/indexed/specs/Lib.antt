@@ -1,1 +1,1 @@
-pub mod TableIndex
+pub mod code

@@ -15,9 +15,9 @@ ghost use Prim.Native.Nat.{_<_};
 ghost use lib.ListN.{getD, drop};
 ghost use Rattle.consequence.specs.Window.{windowWasGiven};
 ghost use Rattle.listing.specs.Listing.{listedCall};
-ghost use Rattle.consequence.specs.Prepared.{Summed};
-ghost use Rattle.deck.specs.Table.{InOrder, transcriptIn};
-ghost use Rattle.indexed.specs.TableIndex.{cdsRow};
+ghost use Rattle.consequence.specs.code.Prepared.{Summed};
+ghost use Rattle.deck.specs.code.Table.{InOrder, transcriptIn};
+ghost use Rattle.indexed.specs.code.TableIndex.{cdsRow};
 
 fn widened(n: u16) -> usize
     ensures { λ r. ⌜ r ≡ n ⌝ }

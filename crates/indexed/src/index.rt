@@ -4,8 +4,8 @@ use crate::row::index_row;
 use deck::rows::rows_at;
 use listing::step::is_transcript;
 ghost use mathlib.Core.Path.{_≡_};
-ghost use Rattle.deck.specs.Table.{tableWasGiven};
-ghost use Rattle.indexed.specs.TableIndex.{tableIndex};
+ghost use Rattle.deck.specs.code.Table.{tableWasGiven};
+ghost use Rattle.indexed.specs.code.TableIndex.{tableIndex};
 
 // What is computed once for the transcripts of a table.
 pub fn index_table(

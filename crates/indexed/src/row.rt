@@ -17,8 +17,8 @@ ghost use Prim.Native.Nat.{_+_, _≤_, _<_};
 ghost use lib.ListN.{length};
 ghost use Rattle.transcript.specs.Transcript.{given, wasGiven};
 ghost use Rattle.transcript.specs.Admission.{admission};
-ghost use Rattle.deck.specs.Table.{InOrder, transcriptIn};
-ghost use Rattle.indexed.specs.TableIndex.{rowIndex, rowSums};
+ghost use Rattle.deck.specs.code.Table.{InOrder, transcriptIn};
+ghost use Rattle.indexed.specs.code.TableIndex.{rowIndex, rowSums};
 
 // Whether the transcript at a row is admitted, and then whether it has a short intron.
 pub(crate) struct RowIndex {

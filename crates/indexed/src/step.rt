@@ -14,9 +14,9 @@ use listing::step::malformed_line;
 use listing::step::next_called;
 ghost use mathlib.Core.Path.{_≡_};
 ghost use Rattle.consequence.specs.Window.{windowWasGiven};
-ghost use Rattle.deck.specs.Table.{tableGiven, tableWasGiven};
-ghost use Rattle.indexed.specs.TableIndex.{tableIndex, indexGiven};
-ghost use Rattle.listing.specs.Steps.{nextCalled, nextLine, listedAs, listedTo, Advances};
+ghost use Rattle.deck.specs.code.Table.{tableGiven, tableWasGiven};
+ghost use Rattle.indexed.specs.code.TableIndex.{tableIndex, indexGiven};
+ghost use Rattle.listing.specs.code.Steps.{nextCalled, nextLine, listedAs, listedTo, Advances};
 
 // The line of one call for the transcript at the cursor.
 fn next_called_indexed(

@@ -13,7 +13,7 @@ use Rattle.consequence.specs.declared.ConsequenceResult.{ConsequenceResult}
 use Rattle.consequence.specs.Window.{Window, codingByte}
 use Rattle.consequence.specs.Numbers.{calledNumber}
 use Rattle.consequence.specs.Call.{callPlace, callCodon, callRefusal, callResult, annotateSnv}
-use Rattle.words.specs.Row.{Near, NearCalled}
+use Rattle.words.specs.code.Near.{Near, NearCalled}
 use Rattle.consequence.proofs.CallPlaces.{located}
 use Rattle.interface.proofs.Nearness.{near-place}
 use Rattle.interface.proofs.Leaving.{some-number}

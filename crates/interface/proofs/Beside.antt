@@ -19,7 +19,7 @@ use Rattle.footprint.specs.Ranges.{sourceRanges}
 use Rattle.footprint.specs.Flank.{isInsertion, flankDistance, flankOf, classifyFlank}
 use Rattle.footprint.specs.Numbers.{flankedNumber}
 use Rattle.footprint.specs.Question.{flank, spill}
-use Rattle.words.specs.IntervalWords.{NearFlank, NearFlanked}
+use Rattle.words.specs.code.Near.{NearFlank, NearFlanked}
 use Rattle.interface.proofs.Leaving.{some-number}
 
 near-either : (b : Bool) (x y : Flank) → (b ≡ true → NearFlank x) → NearFlank y → NearFlank (cond b x y)

@@ -12,9 +12,9 @@ use Rattle.deck.specs.declared.DeckTable.{DeckTable}
 use Rattle.deck.specs.declared.Deck.{Deck}
 use Rattle.deck.specs.declared.rows.Rows.{Rows}
 use Rattle.deck.specs.Walk.{walkDeck}
-use Rattle.deck.specs.Order.{orderOf}
+use Rattle.deck.specs.code.Order.{orderOf}
 use Rattle.deck.specs.Deck.{readDeck}
-use Rattle.deck.specs.Table.{rowsAt, rowsFrom, modelIn, transcriptIn, transcriptAt, tableOf, deckOf}
+use Rattle.deck.specs.code.Table.{rowsAt, rowsFrom, modelIn, transcriptIn, transcriptAt, tableOf, deckOf}
 use Rattle.deck.proofs.RowOrder.{rowsOn, rows-here, rows-none, rows-past}
 use Rattle.deck.proofs.Accepted.{accepted-transcripts}
 use Rattle.interface.specs.Decks.{idOf, deckIds}

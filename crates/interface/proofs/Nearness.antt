@@ -21,7 +21,7 @@ use Rattle.locate.specs.Intronic.{minus, signedDistance, deepIntron, classifyDi
 use Rattle.locate.specs.Find.{Found, inExon, inIntron, outside, findExonOrIntron}
 use Rattle.locate.specs.Place.{exonic, placeFound, locate}
 use Rattle.locate.specs.Query.{locateVariant}
-use Rattle.words.specs.Row.{Near, NearAt}
+use Rattle.words.specs.code.Near.{Near, NearAt}
 
 -- the source's flank
 pub flank-low : (r : Ranges) → r ≡ sourceRanges → r .flank < 2 ^ 32

@@ -11,9 +11,8 @@ use Rattle.footprint.specs.declared.Ranges.{Ranges}
 use Rattle.footprint.specs.Ranges.{sourceRanges}
 use Rattle.consequence.specs.declared.Call.{Call}
 use Rattle.consequence.specs.Window.{Window}
-use Rattle.consequence.specs.Numbers.{calledNumber}
+use Rattle.consequence.specs.Numbers.{calledNumber, calledWords}
 use Rattle.consequence.specs.Call.{annotateSnv}
-use Rattle.words.specs.CallWords.{calledWords}
 use Rattle.words.specs.Lengths.{callsFit}
 use Rattle.interface.specs.Left.{Answered}
 

@@ -4,7 +4,8 @@ use mathlib.Core.List.{List, [], map}
 use Rattle.transcript.specs.Transcript.{Transcript}
 use Rattle.deck.specs.declared.DeckAnswer.{DeckAnswer}
 use Rattle.deck.specs.declared.DeckAnswer.the-variants.{Accepted, Refused}
-use Rattle.deck.specs.Deck.{deckNumber, deckRecord, deckTranscripts, readDeck}
+use Rattle.deck.specs.Numbers.{deckNumber, deckRecord}
+use Rattle.deck.specs.Deck.{deckTranscripts, readDeck}
 
 -- the number of the refusal in the lowest byte, then the record; 0 where the deck is accepted
 abbrev pub deckFault : DeckAnswer → ℕ

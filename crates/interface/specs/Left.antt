@@ -8,9 +8,8 @@ use lib.Dec.{eqb}
 use lib.IntN.{ℤ}
 use Rattle.transcript.specs.Transcript.{Transcript}
 use Rattle.footprint.specs.Ranges.{sourceRanges}
-use Rattle.locate.specs.Numbers.{locatedNumber}
+use Rattle.locate.specs.Numbers.{locatedNumber, locatedWords}
 use Rattle.locate.specs.Query.{locateVariant}
-use Rattle.words.specs.Words.{locatedWords}
 
 -- 1 where the buffer or a list has the wrong length, else the refusal's number, 0 for none
 abbrev pub returned : Bool → ℕ → ℕ

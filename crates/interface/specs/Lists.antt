@@ -10,7 +10,7 @@ use Rattle.transcript.specs.Admission.{admission}
 use Rattle.footprint.specs.declared.Ranges.{Ranges}
 use Rattle.footprint.specs.Ranges.{sourceRanges}
 use Rattle.locate.specs.Query.{locatePosition}
-use Rattle.words.specs.Words.{locatedWords}
+use Rattle.locate.specs.Numbers.{locatedWords}
 use Rattle.interface.specs.Left.{Answered}
 
 -- the place of a position as 8 numbers

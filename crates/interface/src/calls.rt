@@ -17,7 +17,7 @@ ghost use Prim.Native.Nat.{_<_, _^_};
 ghost use Rattle.transcript.specs.Transcript.{given, wasGiven};
 ghost use Rattle.consequence.specs.Window.{windowWasGiven};
 ghost use mathlib.Core.Bool.{true};
-ghost use Rattle.consequence.specs.Prepared.{Prepared};
+ghost use Rattle.consequence.specs.code.Prepared.{Prepared};
 ghost use Rattle.words.specs.Lengths.{callsFit};
 ghost use Rattle.interface.specs.Calls.{callsOf, callsWords, CallsAnswered};
 

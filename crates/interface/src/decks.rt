@@ -8,7 +8,7 @@ ghost use mathlib.Core.List.{[], _∷_, map};
 ghost use lib.ListN.{length, getD};
 ghost use Rattle.common.specs.Stored.{stored, Pushed};
 ghost use Rattle.deck.specs.Deck.{readDeck};
-ghost use Rattle.deck.specs.Table.{rowsFrom};
+ghost use Rattle.deck.specs.code.Table.{rowsFrom};
 ghost use Rattle.interface.specs.Decks.{deckFault, deckIds};
 
 fn fault_of(answer: DeckAnswer) -> u32

@@ -14,7 +14,7 @@ ghost use mathlib.Core.Path.{_≡_};
 ghost use lib.ListN.{length};
 ghost use Rattle.transcript.specs.Transcript.{given, wasGiven};
 ghost use Prim.Native.Nat.{_*_, _<_, _^_};
-ghost use Rattle.interface.specs.Ready.{Ready};
+ghost use Rattle.interface.specs.code.Ready.{Ready};
 ghost use Rattle.interface.specs.Lists.{placesWords, PlacesAnswered};
 
 // The places of the positions, one behind the other.

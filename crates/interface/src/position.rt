@@ -9,7 +9,7 @@ use transcript::question::base_of;
 ghost use mathlib.Core.Path.{_≡_};
 ghost use Rattle.transcript.specs.Transcript.{given, wasGiven};
 ghost use Rattle.locate.specs.Query.{locatePosition};
-ghost use Rattle.interface.specs.Ready.{Ready};
+ghost use Rattle.interface.specs.code.Ready.{Ready};
 
 // The place of [p, p + 1), or the number of the refusal.
 pub(crate) fn locate_position(

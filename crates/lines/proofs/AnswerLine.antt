@@ -6,7 +6,8 @@ use mathlib.Core.List.{[], _∷_, _++_, append-assoc}
 use Rattle.common.specs.Text.{digits, decimal}
 use Rattle.locate.specs.PlaceKind.{placeKind}
 use Rattle.consequence.specs.declared.ConsequenceResult.{ConsequenceResult}
-use Rattle.lines.specs.Line.{joined, placeText, frontColumns, numberColumns, backColumns, answerLine}
+use Rattle.lines.specs.Line.{joined, answerLine}
+use Rattle.lines.specs.code.Columns.{placeText, frontColumns, numberColumns, backColumns}
 
 pub front-parts : (number id kind : ℕ) → ((((decimal number ++ (32 ∷ [])) ++ (decimal id ++ (32 ∷ []))) ++ (decimal 0 ++ (32 ∷ []))) ++ placeText kind) ++ (32 ∷ []) ≡ frontColumns number id kind
 unfolding frontColumns digits

@@ -6,7 +6,7 @@ use mathlib.Core.List.{[]}
 use lib.ListN.{List·getD-eq-default}
 use Rattle.common.specs.Text.{bytes}
 use Rattle.locate.specs.PlaceKind.{placeNames}
-use Rattle.lines.specs.Line.{placeText}
+use Rattle.lines.specs.code.Columns.{placeText}
 
 pub no-place : (kind : ℕ) → 13 ≤ kind → placeText kind ≡ []
 unfolding placeNames

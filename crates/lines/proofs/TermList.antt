@@ -14,7 +14,8 @@ use Rattle.names.specs.Names.{termName}
 use Rattle.terms.specs.Terms.{ranksFrom, ranks, mostSevere, withoutFirst}
 use Rattle.names.proofs.NameTable.{name-short}
 use Rattle.terms.proofs.Ranks.{ranks-rest}
-use Rattle.lines.specs.Line.{commas, behind, termList}
+use Rattle.lines.specs.Line.{commas, termList}
+use Rattle.lines.specs.code.Columns.{behind}
 
 -- the names with commas between, behind other names where they are not the first
 abbrev rest : Bool → List (List ℕ) → List ℕ

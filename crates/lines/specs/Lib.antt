@@ -1,2 +1,4 @@
 pub mod Line
 pub mod Numbers
+pub mod code
+pub mod claims

@@ -1,12 +1,12 @@
 -- The printed lines.
 use Prim.Native.Nat.{ℕ}
-use mathlib.Core.Bool.{Bool, true, false, cond}
+use mathlib.Core.Bool.{Bool, cond}
 use mathlib.Core.List.{List, [], _∷_, _++_, map}
-use lib.ListN.{length, getD, drop}
+use lib.ListN.{length, drop}
 use lib.Dec.{leb}
 use Rattle.common.specs.Text.{byte, bytes, decimal}
 use Rattle.codon.specs.Display.{formatCodons, formatAminoAcids}
-use Rattle.locate.specs.PlaceKind.{placeNames, placeName}
+use Rattle.locate.specs.PlaceKind.{placeName}
 use Rattle.consequence.specs.declared.Numbered.{Numbered}
 use Rattle.consequence.specs.declared.Counted.{Counted}
 use Rattle.consequence.specs.Answer.{cdnaCount}
@@ -31,10 +31,6 @@ joined between last (l ∷ k ∷ ks) = l ++ (between ∷ joined between last (k 
 abbrev pub lineOf : List (List ℕ) → List ℕ
 lineOf fs = joined space newline fs
 
--- the name of the place of a kind
-abbrev pub placeText : ℕ → List ℕ
-placeText kind = bytes (getD placeNames kind "")
-
 -- k/n, `-` for absent
 abbrev pub numbered : Numbered → List ℕ
 numbered Numbered.Absent = bytes "-"
@@ -50,11 +46,6 @@ commas [] = []
 commas (l ∷ []) = l
 commas (l ∷ k ∷ ks) = l ++ (byte "," ∷ commas (k ∷ ks))
 
--- a name behind a comma, unless it is the first
-abbrev pub behind : Bool → List ℕ → List ℕ
-behind true l = l
-behind false l = byte "," ∷ l
-
 abbrev pub termList : ℕ → List ℕ
 termList s = commas (map termName (ranks s))
 
@@ -64,18 +55,6 @@ answerLine number id a = lineOf (
     decimal number ∷ decimal id ∷ bytes "0" ∷ placeName (a .location) ∷ numbered (a .exon) ∷ numbered (a .intron)
     ∷ counted (a .«cds_position») ∷ counted (cdnaCount (a .«cdna_position»)) ∷ counted (a .«protein_start»)
     ∷ formatCodons (a .codons) ∷ formatAminoAcids (a .«amino_acids») ∷ termList (a .consequences .0) ∷ [])
-
--- the same line in three parts: up to the place, the numbers, and the rest with the newline
-unfoldable pub frontColumns : ℕ → ℕ → ℕ → List ℕ
-frontColumns number id kind = decimal number ++ (space ∷ (decimal id ++ (space ∷ (bytes "0" ++ (space ∷ (placeText kind ++ (space ∷ [])))))))
-
-unfoldable pub numberColumns : ConsequenceResult → List ℕ
-numberColumns a =
-    numbered (a .exon) ++ (space ∷ (numbered (a .intron) ++ (space ∷ (counted (a .«cds_position») ++ (space ∷ (counted (cdnaCount (a .«cdna_position»))
-    ++ (space ∷ (counted (a .«protein_start») ++ (space ∷ [])))))))))
-
-unfoldable pub backColumns : ConsequenceResult → List ℕ
-backColumns a = formatCodons (a .codons) ++ (space ∷ (formatAminoAcids (a .«amino_acids») ++ (space ∷ (termList (a .consequences .0) ++ (newline ∷ [])))))
 
 -- a refusal: three numbers
 unfoldable pub refusalLine : ℕ → ℕ → ℕ → List ℕ
@@ -91,10 +70,6 @@ fits buffer line = leb (length line) (length buffer)
 
 abbrev pub writeAnswer : List ℕ → List ℕ → Written
 writeAnswer buffer line = cond (fits buffer line) (Written.Bytes (length line)) (Written.Refused 28)
-
-abbrev pub writtenNumber : Written → ℕ
-writtenNumber (Written.Bytes n) = 0
-writtenNumber (Written.Refused n) = n
 
 -- the lent bytes afterwards: the line and what stood behind it; a refusal leaves them unchanged
 abbrev pub writtenTo : List ℕ → List ℕ → List ℕ

@@ -14,7 +14,8 @@ use consequence::ConsequenceResult;
 ghost use mathlib.Core.Path.{_≡_};
 ghost use Prim.Native.Nat.{_+_, _≤_, _<_, _^_};
 ghost use Rattle.common.specs.Stored.{Pushed};
-ghost use Rattle.lines.specs.Line.{answerLine, writeAnswer, writtenTo, frontColumns, numberColumns, backColumns};
+ghost use Rattle.lines.specs.Line.{answerLine, writeAnswer, writtenTo};
+ghost use Rattle.lines.specs.code.Columns.{frontColumns, numberColumns, backColumns};
 
 // Line number, id, 0 and place, a space behind each.
 fn push_front(out: &mut [u8], number: u64, id: u64, kind: u8) -> usize

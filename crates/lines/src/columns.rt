@@ -17,7 +17,8 @@ ghost use Rattle.common.specs.Stored.{Pushed};
 ghost use Rattle.codon.specs.Display.{lowercase, shown, formatCodon, formatCodons, formatAminoAcids};
 ghost use Rattle.names.specs.Names.{termName};
 ghost use Rattle.consequence.specs.Answer.{cdnaCount};
-ghost use Rattle.lines.specs.Line.{numbered, counted, behind, termList};
+ghost use Rattle.lines.specs.Line.{numbered, counted, termList};
+ghost use Rattle.lines.specs.code.Columns.{behind};
 
 // k/n, `-` for absent.
 pub(crate) fn push_numbered(out: &mut [u8], at: usize, n: Numbered) -> usize

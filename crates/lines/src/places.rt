@@ -5,7 +5,7 @@ ghost use mathlib.Core.Path.{_≡_};
 ghost use Prim.Native.Nat.{_+_, _≤_, _<_, _^_};
 ghost use Rattle.common.specs.Stored.{Pushed};
 ghost use Rattle.locate.specs.PlaceKind.{placeKind};
-ghost use Rattle.lines.specs.Line.{placeText};
+ghost use Rattle.lines.specs.code.Columns.{placeText};
 
 // The place in the order of declaration.
 pub(crate) fn place_kind(place: VariantLocation) -> u8

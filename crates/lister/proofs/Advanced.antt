@@ -8,7 +8,7 @@ use native.Mathlib.Omega.{arith}
 use lib.ListN.{length}
 use Rattle.listing.specs.declared.Cursor.{Cursor}
 use Rattle.listing.specs.declared.Listed.{Listed}
-use Rattle.listing.specs.Steps.{left, Advances}
+use Rattle.listing.specs.code.Steps.{left, Advances}
 
 pub line-advances : (calls : List ℕ) (c : Cursor) (buffer : List ℕ) {r : Listed} {n : ℕ} {next : Cursor} → r ≡ Listed.Line n next → Advances calls c buffer r
     → (n ≤ length buffer) × (left calls next < left calls c)

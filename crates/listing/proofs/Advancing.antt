@@ -11,7 +11,7 @@ use borrow.Author.Tests.{ltb-true, leb-true}
 use Rattle.consequence.specs.declared.Call.{Call}
 use Rattle.consequence.specs.Window.{Window}
 use Rattle.deck.specs.declared.DeckTable.{DeckTable}
-use Rattle.deck.specs.Table.{isKind, rowsAt}
+use Rattle.deck.specs.code.Table.{isKind, rowsAt}
 use Rattle.deck.proofs.RowOrder.{row-inside, rows-past}
 use Rattle.lines.specs.declared.Written.{Written}
 use Rattle.lines.specs.Line.{refusalLine}
@@ -20,8 +20,9 @@ use Rattle.listing.specs.declared.ParsedCall.the-variants.{Read, Malform
 use Rattle.listing.specs.declared.Cursor.{Cursor}
 use Rattle.listing.specs.declared.Listed.{Listed}
 use Rattle.listing.specs.declared.question.Asked.{Asked}
-use Rattle.listing.specs.Calls.{lineLength, parseCall}
-use Rattle.listing.specs.Steps.{Next, line, ended, behindLine, behindTranscript, rowLine, nextCalled, lineAt, askedParsed, askedAt, nextAsked, nextLine, listed, listedAs, listedTo, left, Advances}
+use Rattle.listing.specs.code.Lengths.{lineLength}
+use Rattle.listing.specs.Calls.{parseCall}
+use Rattle.listing.specs.code.Steps.{Next, line, ended, behindLine, behindTranscript, rowLine, nextCalled, lineAt, askedParsed, askedAt, nextAsked, nextLine, listed, listedAs, listedTo, left, Advances}
 use Rattle.listing.proofs.Lines.{line-inside}
 
 module _ (calls : List ℕ) (c : Cursor) where

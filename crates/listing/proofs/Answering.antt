@@ -14,13 +14,13 @@ use Rattle.consequence.specs.Window.{Window}
 use Rattle.consequence.specs.Call.{annotateSnv}
 use Rattle.deck.specs.declared.DeckTable.{DeckTable}
 use Rattle.deck.specs.declared.rows.Rows.{Rows}
-use Rattle.deck.specs.Table.{isKind, rowsAt, modelIn, transcriptIn}
+use Rattle.deck.specs.code.Table.{isKind, rowsAt, modelIn, transcriptIn}
 use Rattle.lines.specs.declared.Written.{Written}
 use Rattle.lines.specs.Line.{calledLine, writeAnswer, writtenTo}
 use Rattle.listing.specs.declared.Cursor.{Cursor}
 use Rattle.listing.specs.declared.Listed.{Listed}
 use Rattle.listing.specs.declared.Listed.the-variants.{End}
-use Rattle.listing.specs.Steps.{Next, line, ended, behindTranscript, rowLine, nextCalled, listed, listedAs, listedTo}
+use Rattle.listing.specs.code.Steps.{Next, line, ended, behindTranscript, rowLine, nextCalled, listed, listedAs, listedTo}
 
 -- whether a transcript stands at a row
 pub in-table : (kinds : List ℕ) (k : ℕ) → k < 4096 → eqb (getD kinds k 0) 1 ≡ isKind kinds 1 k

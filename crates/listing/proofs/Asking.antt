@@ -12,8 +12,9 @@ use Rattle.listing.specs.declared.ParsedCall.{ParsedCall}
 use Rattle.listing.specs.declared.ParsedCall.the-variants.{Read, Malformed}
 use Rattle.listing.specs.declared.Cursor.{Cursor}
 use Rattle.listing.specs.declared.question.Asked.{Asked}
-use Rattle.listing.specs.Calls.{lineLength, parseCall}
-use Rattle.listing.specs.Steps.{behindLine, lineAt, askedParsed, askedAt}
+use Rattle.listing.specs.code.Lengths.{lineLength}
+use Rattle.listing.specs.Calls.{parseCall}
+use Rattle.listing.specs.code.Steps.{behindLine, lineAt, askedParsed, askedAt}
 
 module _ (calls : List ℕ) (c : Cursor) where
   pub asked-past : length calls ≤ c .at → askedAt calls c ≡ Asked.Nothing

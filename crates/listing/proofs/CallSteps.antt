@@ -15,13 +15,14 @@ use Rattle.consequence.specs.declared.Call.{Call}
 use Rattle.consequence.specs.Window.{Window}
 use Rattle.consequence.specs.Call.{annotateSnv}
 use Rattle.deck.specs.declared.DeckTable.{DeckTable}
-use Rattle.deck.specs.Table.{isKind, rowsFrom, transcriptAt, tableTranscripts}
+use Rattle.deck.specs.code.Table.{isKind, rowsFrom, transcriptAt, tableTranscripts}
 use Rattle.lines.specs.Line.{refusalLine, calledLine}
 use Rattle.listing.specs.declared.ParsedCall.{ParsedCall}
 use Rattle.listing.specs.declared.ParsedCall.the-variants.{Read, Malformed}
-use Rattle.listing.specs.Calls.{linesOf, lineLength, parseCall}
+use Rattle.listing.specs.Calls.{linesOf, parseCall}
+use Rattle.listing.specs.code.Lengths.{lineLength}
 use Rattle.listing.specs.Listing.{callLines, allLines}
-use Rattle.listing.specs.Steps.{behindLine, rowLine, lineAt, steps}
+use Rattle.listing.specs.code.Steps.{behindLine, rowLine, lineAt, steps}
 use Rattle.listing.proofs.Lines.{lines-step, line-inside}
 use Rattle.listing.proofs.RowSteps.{next-inside, steps-past, steps-line, so-many, cursor, row-steps}
 

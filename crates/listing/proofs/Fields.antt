@@ -11,7 +11,8 @@ use lib.Dec.{eqb}
 use borrow.Author.Tests.{eq-eqb, ne-eqb}
 use Rattle.lines.specs.Line.{space}
 use Rattle.listing.specs.declared.ParsedCall.the-variants.{Read, Malformed}
-use Rattle.listing.specs.Calls.{onto, fieldsOf, fieldLength, isNumber, isCall, callOf, parseCall, value}
+use Rattle.listing.specs.Calls.{onto, fieldsOf, isNumber, isCall, callOf, parseCall, value}
+use Rattle.listing.specs.code.Lengths.{fieldLength}
 
 field-le : (l : List ℕ) → fieldLength l ≤ length l
 field-le [] = omega arith

@@ -11,11 +11,11 @@ use borrow.Author.Tests.{lt-ltb, le-ltb, ltb-false}
 use Rattle.common.specs.Little.{at2, at8}
 use Rattle.deck.specs.declared.DeckAnswer.the-variants.{Accepted, Refused}
 use Rattle.deck.specs.declared.Deck.{Deck}
-use Rattle.deck.specs.Table.{deckOf}
+use Rattle.deck.specs.code.Table.{deckOf}
 use Rattle.listing.specs.declared.Opening.the-variants.{Listing}
 use Rattle.listing.specs.declared.Opened.{Opened}
 use Rattle.listing.specs.WindowFile.{badWindowFile, badCallFile}
-use Rattle.listing.specs.Opening.{notOpened, opened}
+use Rattle.listing.specs.code.Opening.{notOpened, opened}
 
 -- 27 by the length of the window file, then of the call file
 module _ (window calls : List ℕ) where

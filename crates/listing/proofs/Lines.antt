@@ -11,7 +11,8 @@ use lib.Seq.{drop-cons, drop-length}
 use lib.Dec.{eqb}
 use borrow.Author.Tests.{eq-eqb, ne-eqb, eqb-true}
 use Rattle.lines.specs.Line.{newline, space}
-use Rattle.listing.specs.Calls.{linesOf, lineLength, fieldLength}
+use Rattle.listing.specs.Calls.{linesOf}
+use Rattle.listing.specs.code.Lengths.{lineLength, fieldLength}
 
 -- the first line and the lines behind it
 lines-here : (t : Bool) (b : ℕ) (bs : List ℕ) → eqb b newline ≡ t → linesOf bs ≡ take (lineLength bs) bs ∷ linesOf (drop (lineLength bs) bs)

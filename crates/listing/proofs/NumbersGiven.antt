@@ -2,7 +2,7 @@
 -- Assumes nothing.
 use Prim.Native.Nat.{ℕ, suc}
 use mathlib.Core.Path.{_≡_, refl}
-use mathlib.Core.Bool.{Bool, true, false, _||_}
+use mathlib.Core.Bool.{Bool, true, false, cond, _||_}
 use mathlib.Core.List.{List, [], _∷_, _++_, map}
 use mathlib.Core.Logic.{inl, inr}
 use lib.Dec.{eqb}
@@ -11,32 +11,39 @@ use Rattle.common.specs.Lists.{any, all, memb}
 use Rattle.common.proofs.TestParts.{on-test}
 use Rattle.footprint.specs.Ranges.{sourceRanges}
 use Rattle.transcript.specs.Transcript.{Transcript}
-use Rattle.transcript.specs.Numbers.{NumberGiven}
+use Rattle.transcript.specs.claims.Numbers.{NumberGiven}
 use Rattle.transcript.proofs.NumbersGiven.{among-in}
 use Rattle.consequence.specs.declared.Called.{Called}
 use Rattle.consequence.specs.Window.{Window}
-use Rattle.consequence.specs.Numbers.{calledNumber, isAnswered, callNumbers}
+use Rattle.consequence.specs.Numbers.{calledNumber, isAnswered}
+use Rattle.consequence.specs.claims.Numbers.{callNumbers}
 use Rattle.consequence.proofs.NumbersGiven.{callGiven}
 use Rattle.deck.specs.declared.DeckAnswer.{DeckAnswer}
 use Rattle.deck.specs.declared.DeckAnswer.the-variants.{Accepted, Refused}
 use Rattle.deck.specs.declared.DeckTable.{DeckTable}
-use Rattle.deck.specs.Deck.{readDeck, deckTranscripts, deckNumber}
-use Rattle.deck.specs.Table.{deckOf}
-use Rattle.deck.specs.Numbers.{isAccepted, deckNumbers}
+use Rattle.deck.specs.Deck.{readDeck, deckTranscripts}
+use Rattle.deck.specs.Numbers.{deckNumber, deckRecord, isAccepted}
+use Rattle.deck.specs.code.Table.{deckOf}
+use Rattle.deck.specs.claims.Numbers.{deckNumbers}
 use Rattle.deck.proofs.NumbersGiven.{deckGiven}
 use Rattle.lines.specs.declared.Written.{Written}
-use Rattle.lines.specs.Line.{calledLine, writeAnswer, writtenNumber}
-use Rattle.lines.specs.Numbers.{isWritten}
+use Rattle.lines.specs.Line.{calledLine, fits, writeAnswer}
+use Rattle.lines.specs.Numbers.{writtenNumber, isWritten}
 use Rattle.lines.proofs.NumbersGiven.{lineGiven}
 use Rattle.listing.specs.declared.ParsedCall.{ParsedCall}
 use Rattle.listing.specs.declared.ParsedCall.the-variants.{Read, Malformed}
 use Rattle.listing.specs.declared.Cursor.{Cursor}
 use Rattle.listing.specs.WindowFile.{badWindowFile, badCallFile, windowOf}
-use Rattle.listing.specs.Calls.{linesOf, parseCall}
+use Rattle.listing.specs.Calls.{linesOf, fieldsOf, isCall, callOf, parseCall}
 use Rattle.listing.specs.Listing.{listedCall, callLines, allLines, listingOf, listing}
-use Rattle.listing.specs.Opening.{openedAs, opened}
-use Rattle.listing.specs.Steps.{line, ended, listed}
-use Rattle.listing.specs.Numbers.{openingNumber, isOpened, listedNumber, isListed, openingNumbers, OpeningGiven, NextGiven, Each, printedNumbers, Printed, ListingGiven}
+use Rattle.listing.specs.code.Opening.{openedAs, opened}
+use Rattle.listing.specs.code.Steps.{line, ended, listed}
+use Rattle.listing.specs.Numbers.{openingNumber, openingValues, isOpened, listedNumber, isListed}
+use Rattle.listing.specs.claims.Numbers.{ParsedGiven, openingNumbers, OpeningGiven, OpeningValued, NextGiven, NextValued, Each, printedNumbers, Printed, ListingGiven}
+
+pub parsedGiven : ParsedGiven
+unfolding parseCall callOf
+parsedGiven l = on-test (isCall (fieldsOf l)) (λ e. rw e (refl, refl)) (λ e. rw e (refl, refl))
 
 -- a deck's answer
 abbrev Judged : DeckAnswer → Type 0
@@ -66,6 +73,15 @@ pub openingGiven : OpeningGiven
 unfolding opened deckOf
 openingGiven deck window calls = opening-by (readDeck deck) (judged deck) (deckOf deck .table) window calls
 
+opening-valued : (a : DeckAnswer) (t : DeckTable) (window calls : List ℕ) →
+    openingValues (openedAs a t window calls .opening) ≡ cond (isOpened (openedAs a t window calls .opening)) [] (deckRecord a ∷ [])
+opening-valued (Refused n i) t window calls = refl
+opening-valued Accepted t window calls = on-test (badWindowFile window || badCallFile calls) (λ e. rw e) (λ e. rw e)
+
+pub openingValued : OpeningValued
+unfolding opened deckOf
+openingValued deck window calls = opening-valued (readDeck deck) (deckOf deck .table) window calls
+
 -- the answer has the number of the written line
 by-written : {ns : List ℕ} {w : ℕ} (c : Cursor) (x : Written) → NumberGiven ns w (writtenNumber x) (isWritten x) → NumberGiven ns w (listedNumber (listed x c)) (isListed (listed x c))
 by-written c (Written.Bytes n) g = g
@@ -75,6 +91,10 @@ pub nextGiven : NextGiven
 unfolding any
 nextGiven buffer (line l c) = by-written c (writeAnswer buffer l) (lineGiven buffer l)
 nextGiven buffer ended = record { refusal-is = refl; among = refl; zero-answered = refl }
+
+pub nextValued : NextValued
+nextValued buffer (line l c) = on-test (fits buffer l) (λ e. rw e) (λ e. rw e)
+nextValued buffer ended = refl
 
 module _ {A : Type 0} (so : A → Type 0) where
   each-both : (xs ys : List A) → Each so xs → Each so ys → Each so (xs ++ ys)

@@ -10,13 +10,13 @@ use borrow.Author.Tests.{le-ltb}
 use Rattle.consequence.specs.declared.Call.{Call}
 use Rattle.consequence.specs.Window.{Window}
 use Rattle.deck.specs.declared.DeckTable.{DeckTable}
-use Rattle.deck.specs.Table.{isKind, rowsAt, rowsFrom}
+use Rattle.deck.specs.code.Table.{isKind, rowsAt, rowsFrom}
 use Rattle.deck.proofs.RowOrder.{rows-past}
 use Rattle.listing.specs.declared.ParsedCall.the-variants.{Read}
 use Rattle.listing.specs.declared.Cursor.{Cursor}
 use Rattle.listing.specs.declared.question.Asked.{Asked}
 use Rattle.listing.specs.Calls.{parseCall}
-use Rattle.listing.specs.Steps.{Next, line, ended, behindLine, behindTranscript, rowLine, nextCalled, lineAt, askedParsed, askedAt, nextAsked, nextLine, onward, steps}
+use Rattle.listing.specs.code.Steps.{Next, line, ended, behindLine, behindTranscript, rowLine, nextCalled, lineAt, askedParsed, askedAt, nextAsked, nextLine, onward, steps}
 use Rattle.listing.proofs.Asking.{asked-past, asked-inside}
 
 -- the next line, by what the calls have at the cursor

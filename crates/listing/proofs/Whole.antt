@@ -10,18 +10,18 @@ use Rattle.deck.specs.declared.DeckAnswer.{DeckAnswer}
 use Rattle.deck.specs.declared.DeckAnswer.the-variants.{Accepted, Refused}
 use Rattle.deck.specs.declared.DeckTable.{DeckTable}
 use Rattle.deck.specs.Walk.{walkDeck}
-use Rattle.deck.specs.Order.{orderOf}
+use Rattle.deck.specs.code.Order.{orderOf}
 use Rattle.deck.specs.Deck.{readDeck, deckTranscripts}
-use Rattle.deck.specs.Table.{tableOf, tableAs, deckOf}
+use Rattle.deck.specs.code.Table.{tableOf, tableAs, deckOf}
 use Rattle.deck.proofs.Accepted.{accepted-transcripts}
 use Rattle.deck.proofs.Transcripts.{accepted-first}
 use Rattle.listing.specs.declared.Opened.{Opened}
 use Rattle.listing.specs.WindowFile.{badWindowFile, badCallFile, windowOf}
 use Rattle.listing.specs.Calls.{linesOf}
 use Rattle.listing.specs.Listing.{allLines, listingOf, listing}
-use Rattle.listing.specs.Opening.{opened, openedAs}
-use Rattle.listing.specs.Steps.{steps, start}
-use Rattle.listing.specs.Whole.{StepsAre, WholeListing}
+use Rattle.listing.specs.code.Opening.{opened, openedAs}
+use Rattle.listing.specs.code.Steps.{steps, start}
+use Rattle.listing.specs.claims.Whole.{StepsAre, WholeListing}
 use Rattle.listing.proofs.FilesJudged.{right-files}
 use Rattle.listing.proofs.CallSteps.{call-steps}
 

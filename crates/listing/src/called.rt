@@ -12,7 +12,7 @@ use deck::rows::model_in;
 ghost use mathlib.Core.Path.{_≡_};
 ghost use Rattle.consequence.specs.Window.{windowWasGiven};
 ghost use Rattle.listing.specs.Listing.{listedCall};
-ghost use Rattle.deck.specs.Table.{InOrder, transcriptIn};
+ghost use Rattle.deck.specs.code.Table.{InOrder, transcriptIn};
 
 // The answer to a call on the transcript at row k.
 pub(crate) fn call_at(

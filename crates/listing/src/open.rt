@@ -9,7 +9,7 @@ use deck::read_deck;
 ghost use mathlib.Core.Path.{_≡_};
 ghost use mathlib.Core.Bool.{_||_};
 ghost use Rattle.listing.specs.WindowFile.{badWindowFile, badCallFile};
-ghost use Rattle.listing.specs.Opening.{notOpened, opened};
+ghost use Rattle.listing.specs.code.Opening.{notOpened, opened};
 
 // 27: window file under 10 or over 65,536 bytes, call file over 65,536 bytes.
 fn bad_files(window: &[u8], calls: &[u8]) -> bool

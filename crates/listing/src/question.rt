@@ -5,7 +5,7 @@ use crate::parse::line_end;
 use crate::parse::parse_call;
 use consequence::Call;
 ghost use mathlib.Core.Path.{_≡_};
-ghost use Rattle.listing.specs.Steps.{askedAt};
+ghost use Rattle.listing.specs.code.Steps.{askedAt};
 
 // What the calls have at a cursor, with the cursor behind that line.
 pub enum Asked {

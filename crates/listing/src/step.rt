@@ -10,10 +10,10 @@ use lines::Written;
 use lines::line::write_refusal;
 use lines::write_called;
 ghost use mathlib.Core.Path.{_≡_};
-ghost use Rattle.deck.specs.Table.{isKind, rowsAt, tableWasGiven};
+ghost use Rattle.deck.specs.code.Table.{isKind, rowsAt, tableWasGiven};
 ghost use Rattle.consequence.specs.Window.{windowWasGiven};
 ghost use Rattle.lines.specs.Line.{refusalLine};
-ghost use Rattle.listing.specs.Steps.{line, behindTranscript, nextCalled, nextLine, listed, listedAs, listedTo, Advances};
+ghost use Rattle.listing.specs.code.Steps.{line, behindTranscript, nextCalled, nextLine, listed, listedAs, listedTo, Advances};
 
 // Whether a transcript stands at a row.
 pub fn is_transcript(kinds: &[u8; 4096], row: usize) -> bool

@@ -13,12 +13,12 @@ use Rattle.transcript.specs.Transcript.{Transcript, exonsOf, lent, cdsStart, cd
 use Rattle.transcript.specs.Orient.{Interval, interval, orient, Oriented, oriented}
 use Rattle.transcript.specs.Bases.{inside, sum, basesIn, totalSize}
 use Rattle.transcript.specs.Admission.{admission}
-use Rattle.transcript.specs.Lent.{exonSize, padOfPhases, lentExons}
+use Rattle.transcript.specs.code.Lent.{exonSize, padOfPhases, lentExons}
 use Rattle.locate.specs.declared.VariantLocation.the-variants.{NonCodingExon}
 use Rattle.locate.specs.Index.{cumulative, indexScalars}
 use Rattle.locate.specs.Place.{isExonicSpliceRegion, exonic}
-use Rattle.locate.specs.Search.{Holds}
-use Rattle.locate.specs.Exonic.{counts, exonicOf, Countable, headOf}
+use Rattle.locate.specs.code.Search.{Holds}
+use Rattle.locate.specs.code.Exonic.{counts, exonicOf, Countable, headOf}
 use Rattle.transcript.proofs.Orient.{inside-by}
 use Rattle.transcript.proofs.Listed.{nowhere}
 use Rattle.locate.proofs.Searching.{end-at, end-top}

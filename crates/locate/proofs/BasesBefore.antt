@@ -11,11 +11,11 @@ use Rattle.transcript.specs.Limits.{top}
 use Rattle.transcript.specs.Transcript.{exonsOf}
 use Rattle.transcript.specs.Orient.{orient}
 use Rattle.transcript.specs.Bases.{inside, sum, basesIn}
-use Rattle.transcript.specs.Lent.{exonSize, lentExons}
+use Rattle.transcript.specs.code.Lent.{exonSize, lentExons}
 use Rattle.transcript.proofs.Orient.{inside-start, inside-end}
 use Rattle.transcript.proofs.Listed.{nowhere}
 use Rattle.locate.specs.Index.{cumulative}
-use Rattle.locate.specs.Search.{Ready}
+use Rattle.locate.specs.code.Search.{Ready}
 use Rattle.locate.proofs.Sums.{bases-le, sum-before}
 use Rattle.locate.proofs.Searching.{ascends, count, start-at, end-at, end-top}
 use Rattle.locate.proofs.LentIndex.{sizes-turned, sizes-bound}

@@ -16,9 +16,9 @@ use Rattle.transcript.specs.Orient.{Interval, orientBase}
 use Rattle.transcript.specs.Bases.{insideAny}
 use Rattle.transcript.specs.Admission.{overLimit, inNone}
 use Rattle.transcript.proofs.Listed.{oriented-length}
-use Rattle.transcript.specs.Lent.{lentExons}
-use Rattle.locate.specs.Search.{Ready}
-use Rattle.locate.specs.Coded.{Coded}
+use Rattle.transcript.specs.code.Lent.{lentExons}
+use Rattle.locate.specs.code.Search.{Ready}
+use Rattle.locate.specs.code.Coded.{Coded}
 
 -- a test that no element passes, at an index
 none-at : (f : ℕ → Bool) (xs : List ℕ) (i : ℕ) → any f xs ≡ false → i < length xs → f (getD xs i 0) ≡ false

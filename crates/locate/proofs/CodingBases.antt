@@ -29,7 +29,7 @@ use Rattle.locate.specs.declared.Located.{Located}
 use Rattle.locate.specs.Place.{cdsOffset, cdnaPosition, cdnaOfOffset, locate}
 use Rattle.locate.specs.PlaceKind.{isCdsExon, placeOffset}
 use Rattle.locate.specs.Query.{locateVariant}
-use Rattle.locate.specs.CodingBases.{isCoding, isBefore, codingBefore, CodingPlaces, OffsetsCount}
+use Rattle.locate.specs.claims.CodingBases.{isCoding, isBefore, codingBefore, CodingPlaces, OffsetsCount}
 use Rattle.locate.proofs.Coding.{coding-place, coding-offset}
 use Rattle.locate.proofs.CodingExons.{segments-ascend}
 use Rattle.locate.proofs.Cdna.{cdna-of-offset}

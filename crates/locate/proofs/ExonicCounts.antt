@@ -11,7 +11,7 @@ use Rattle.transcript.specs.Orient.{Interval, Oriented, oriented}
 use Rattle.transcript.specs.Bases.{size, basesIn, endAfter}
 use Rattle.locate.specs.Place.{totalCdsLength}
 use Rattle.locate.specs.Index.{cumulative, indexScalars}
-use Rattle.locate.specs.Exonic.{Counts, counts}
+use Rattle.locate.specs.code.Exonic.{Counts, counts}
 use Rattle.transcript.proofs.Ascends.{Ascends}
 use Rattle.transcript.proofs.Cuts.{cuts-ascend, cuts-bases}
 use Rattle.transcript.proofs.Facts.{Facts}

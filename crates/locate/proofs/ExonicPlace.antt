@@ -16,7 +16,7 @@ use Rattle.transcript.specs.Orient.{oriented}
 use Rattle.transcript.specs.Bases.{basesIn}
 use Rattle.locate.specs.Intronic.{minus}
 use Rattle.locate.specs.Place.{intervalIndex, cdsOffset, cdsExon, exonic}
-use Rattle.locate.specs.Exonic.{exonicOf, Countable}
+use Rattle.locate.specs.code.Exonic.{exonicOf, Countable}
 use Rattle.transcript.proofs.Orient.{inside-by}
 use Rattle.transcript.proofs.Facts.{Facts}
 use Rattle.locate.proofs.Cdna.{coding-bases}

@@ -12,7 +12,7 @@ use Rattle.locate.specs.declared.VariantLocation.the-variants.{FivePrime
 use Rattle.transcript.specs.Orient.{Interval}
 use Rattle.locate.specs.Intronic.{minus}
 use Rattle.locate.specs.Place.{cdsExon}
-use Rattle.locate.specs.Exonic.{Counts, exonicOf, headOf}
+use Rattle.locate.specs.code.Exonic.{Counts, exonicOf, headOf}
 
 pub head-empty : (ns : List ℕ) → length ns ≡ 0 → 0 ≡ headOf ns
 head-empty [] h = refl

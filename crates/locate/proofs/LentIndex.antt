@@ -20,14 +20,14 @@ use Rattle.transcript.specs.Transcript.{Transcript, exonsOf, lent, cdsStart, cd
 use Rattle.transcript.specs.Orient.{Interval, orient, orientBase, orientExon, Oriented, oriented}
 use Rattle.transcript.specs.Bases.{inside, size, sum, basesIn, gaps}
 use Rattle.transcript.specs.Admission.{badExon, ascending, admission}
-use Rattle.transcript.specs.Lent.{exonSize, padOfPhases, lentExons}
+use Rattle.transcript.specs.code.Lent.{exonSize, padOfPhases, lentExons}
 use Rattle.footprint.specs.ShortIntron.{isFrameshiftGap}
 use Rattle.locate.specs.Place.{intervalIndex}
 use Rattle.common.specs.Stored.{filled}
 use Rattle.locate.specs.Index.{cumulative, indexScalars, locateIndex}
-use Rattle.locate.specs.Sums.{firstSum, Sums, ExonSums, CdsSums}
-use Rattle.locate.specs.Coded.{Coded}
-use Rattle.locate.specs.Exonic.{headOf}
+use Rattle.locate.specs.code.Sums.{firstSum, Sums, ExonSums, CdsSums}
+use Rattle.locate.specs.code.Coded.{Coded}
+use Rattle.locate.specs.code.Exonic.{headOf}
 use Rattle.transcript.proofs.Ascends.{Ascends}
 use Rattle.transcript.proofs.Facts.{Facts}
 use Rattle.transcript.proofs.Admitted.{ascending-exons, exons-high}

@@ -12,9 +12,9 @@ use Rattle.transcript.specs.declared.TranscriptModel.{TranscriptModel}
 use Rattle.transcript.specs.Transcript.{Transcript, lent, cdsStart, cdsEnd}
 use Rattle.transcript.specs.Orient.{orient, orientBase, oriented}
 use Rattle.transcript.specs.Admission.{admission}
-use Rattle.transcript.specs.Lent.{padOfPhases, listedCuts, lentExons}
-use Rattle.locate.specs.Search.{Ready}
-use Rattle.locate.specs.Exonic.{headOf}
+use Rattle.transcript.specs.code.Lent.{padOfPhases, listedCuts, lentExons}
+use Rattle.locate.specs.code.Search.{Ready}
+use Rattle.locate.specs.code.Exonic.{headOf}
 use Rattle.transcript.proofs.Orient.{bounds-both}
 use Rattle.transcript.proofs.Facts.{Facts}
 use Rattle.transcript.proofs.Admitted.{facts}

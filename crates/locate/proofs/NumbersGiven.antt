@@ -4,13 +4,14 @@ use mathlib.Core.Path.{refl}
 use Rattle.transcript.specs.Orient.{orientBase, oriented}
 use Rattle.transcript.specs.Question.{placeRefusal}
 use Rattle.transcript.proofs.NumbersGiven.{given-by, admissionGiven}
-use Rattle.footprint.specs.Numbers.{questionNumbers}
+use Rattle.footprint.specs.claims.Numbers.{questionNumbers}
 use Rattle.footprint.proofs.NumbersGiven.{refusal-among}
 use Rattle.locate.specs.declared.Located.{Located}
 use Rattle.locate.specs.Place.{locate}
 use Rattle.locate.specs.Index.{indexed}
 use Rattle.locate.specs.Query.{locateVariant}
-use Rattle.locate.specs.Numbers.{locatedNumber, isLocated, IndexGiven, PlaceGiven}
+use Rattle.locate.specs.Numbers.{locatedNumber, isLocated}
+use Rattle.locate.specs.claims.Numbers.{IndexGiven, PlaceGiven}
 
 pub indexGiven : IndexGiven
 unfolding indexed

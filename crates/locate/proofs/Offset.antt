@@ -17,7 +17,7 @@ use Rattle.transcript.specs.Cuts.{Cut, cutOf, meet, cuts}
 use Rattle.locate.specs.Place.{intervalIndex, cdsOffset, cdnaPosition}
 use Rattle.common.specs.Stored.{filled}
 use Rattle.locate.specs.Index.{cumulative, indexScalars, locateIndex}
-use Rattle.locate.specs.Sums.{firstSum, Sums, ExonSums, CdsSums}
+use Rattle.locate.specs.code.Sums.{firstSum, Sums, ExonSums, CdsSums}
 use Rattle.transcript.proofs.Ascends.{Ascends}
 use Rattle.transcript.proofs.Cuts.{segmentsFrom, cuts-some}
 use Rattle.transcript.proofs.Orient.{inside-start, inside-end}

@@ -19,8 +19,8 @@ use Rattle.transcript.specs.Admission.{admission}
 use Rattle.locate.specs.Find.{Found, inExon, inIntron, outside, findExonOrIntron}
 use Rattle.locate.specs.Intronic.{classifyIntronic}
 use Rattle.locate.specs.Place.{isExonicSpliceRegion, exonic, placeFound, locate}
-use Rattle.transcript.specs.Lent.{lentExons}
-use Rattle.locate.specs.Search.{exonOrIntron, FoundAt, Holds, upstreamBy, downstreamBy}
+use Rattle.transcript.specs.code.Lent.{lentExons}
+use Rattle.locate.specs.code.Search.{exonOrIntron, FoundAt, Holds, upstreamBy, downstreamBy}
 use Rattle.locate.proofs.LentTranscript.{known, exons-are, coding-is}
 
 abbrev kind : ExonOrIntron → ℕ

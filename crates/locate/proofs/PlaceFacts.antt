@@ -16,10 +16,10 @@ use Rattle.transcript.specs.Bases.{size, lastEnd}
 use Rattle.transcript.specs.Admission.{admission}
 use Rattle.locate.specs.declared.IndexScalars.{IndexScalars}
 use Rattle.locate.specs.Index.{cumulative, indexScalars}
-use Rattle.locate.specs.Sums.{ExonSums}
+use Rattle.locate.specs.code.Sums.{ExonSums}
 use Rattle.locate.specs.Place.{isExonicSpliceRegion, exonic}
-use Rattle.locate.specs.Search.{Holds}
-use Rattle.locate.specs.Exonic.{Counts, counts, exonicOf, Countable}
+use Rattle.locate.specs.code.Search.{Holds}
+use Rattle.locate.specs.code.Exonic.{Counts, counts, exonicOf, Countable}
 use Rattle.transcript.proofs.Listed.{nowhere}
 use Rattle.locate.proofs.Searching.{end-at, end-top}
 use Rattle.locate.proofs.Offset.{sum-low}

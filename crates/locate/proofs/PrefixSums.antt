@@ -9,7 +9,7 @@ use Rattle.transcript.specs.Transcript.{exonsOf}
 use Rattle.common.specs.Stored.{filled}
 use Rattle.locate.specs.Index.{cumulative}
 use Rattle.transcript.specs.Bases.{sum}
-use Rattle.transcript.specs.Lent.{exonSize}
+use Rattle.transcript.specs.code.Lent.{exonSize}
 
 pub cumulative-length : (first : ℕ) (ns : List ℕ) → length (cumulative first ns) ≡ suc (length ns)
 unfolding cumulative

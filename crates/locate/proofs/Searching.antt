@@ -13,8 +13,8 @@ use Rattle.transcript.specs.Transcript.{exonsOf}
 use Rattle.transcript.specs.Orient.{Interval, interval, orient}
 use Rattle.transcript.specs.Bases.{firstStart, lastEnd}
 use Rattle.locate.specs.Find.{inExon, inIntron, outside, findAfter, findExonOrIntron}
-use Rattle.transcript.specs.Lent.{lentExons}
-use Rattle.locate.specs.Search.{Ready, Started, exonOrIntron}
+use Rattle.transcript.specs.code.Lent.{lentExons}
+use Rattle.locate.specs.code.Search.{Ready, Started, exonOrIntron}
 use Rattle.transcript.proofs.Ascends.{Ascends}
 use Rattle.transcript.proofs.Admitted.{ascending-exons, exons-high}
 use Rattle.transcript.proofs.Listed.{nowhere, oriented-length, oriented-at, edges-at, first-at}

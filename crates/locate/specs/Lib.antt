@@ -5,9 +5,6 @@ pub mod PlaceKind
 pub mod Index
 pub mod Query
 pub mod Numbers
-pub mod Marked
-pub mod Search
-pub mod Sums
-pub mod Coded
-pub mod Exonic
-pub mod CodingBases
+pub mod code
+pub mod claims
+pub mod examples

@@ -25,7 +25,7 @@ ghost use Rattle.transcript.specs.Transcript.{given, wasGiven};
 ghost use Rattle.transcript.specs.Orient.{interval, oriented};
 ghost use Rattle.transcript.specs.Admission.{admission};
 ghost use Rattle.locate.specs.Place.{isExonicSpliceRegion, exonic, locate};
-ghost use Rattle.locate.specs.Search.{Holds};
+ghost use Rattle.locate.specs.code.Search.{Holds};
 
 // The place of the base p of exon i, [start, end).
 pub(crate) fn exon_alone(
@@ -131,7 +131,14 @@ pub(crate) fn place_alone(
             b,
             p,
         ),
-        ExonOrIntron::Intron(i, a, b) => classify_intronic(ranges, 0 < seg_starts.len(), i as u16, a, b, p),
+        ExonOrIntron::Intron(i, a, b) => classify_intronic(
+            ranges,
+            0 < seg_starts.len(),
+            i as u16,
+            a,
+            b,
+            p,
+        ),
         ExonOrIntron::Outside => VariantLocation::Distal,
     }
 }

@@ -5,7 +5,7 @@ ghost use Prim.Native.Nat.{_+_, _-_, _≤_, _<_};
 ghost use Rattle.transcript.specs.Limits.{top, maxExons};
 ghost use Rattle.transcript.specs.Orient.{interval};
 ghost use Rattle.locate.specs.Place.{isExonicSpliceRegion};
-ghost use Rattle.locate.specs.Exonic.{counts, exonicOf, Countable, headOf};
+ghost use Rattle.locate.specs.code.Exonic.{counts, exonicOf, Countable, headOf};
 
 // The splice mark of the base p of exon i, [start, end), of n exons.
 pub(crate) fn is_exonic_splice_region(n: usize, i: usize, start: u64, end: u64, p: u64) -> bool

@@ -20,10 +20,10 @@ ghost use Rattle.transcript.specs.Orient.{oriented};
 ghost use Rattle.transcript.specs.Admission.{admission};
 ghost use Rattle.common.specs.Lists.{any};
 ghost use Rattle.transcript.specs.Bases.{gaps};
-ghost use Rattle.transcript.specs.Lent.{lentExons};
+ghost use Rattle.transcript.specs.code.Lent.{lentExons};
 ghost use Rattle.footprint.specs.ShortIntron.{isFrameshiftGap};
 ghost use Rattle.locate.specs.Index.{indexScalars, locateIndex};
-ghost use Rattle.locate.specs.Sums.{ExonSums, CdsSums};
+ghost use Rattle.locate.specs.code.Sums.{ExonSums, CdsSums};
 
 // The exon of the last coding base, from that of the first: each exon from the first to the last has a segment.
 pub(crate) fn last_exon(first: u16, segments: usize) -> u16

@@ -12,9 +12,9 @@ ghost use Rattle.transcript.specs.Transcript.{exonsOf};
 ghost use Rattle.transcript.specs.Orient.{interval};
 ghost use Rattle.transcript.specs.Admission.{badExon};
 ghost use Rattle.transcript.specs.Bases.{inside, sum, basesIn};
-ghost use Rattle.transcript.specs.Lent.{exonSize, lentExons};
+ghost use Rattle.transcript.specs.code.Lent.{exonSize, lentExons};
 ghost use Rattle.locate.specs.Index.{cumulative};
-ghost use Rattle.locate.specs.Search.{Ready};
+ghost use Rattle.locate.specs.code.Search.{Ready};
 
 // The length of the first n intervals.
 pub(crate) fn length_before(starts: &[u64], ends: &[u64], n: usize) -> u32

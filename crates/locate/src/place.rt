@@ -21,9 +21,9 @@ ghost use Rattle.transcript.specs.Transcript.{given, wasGiven};
 ghost use Rattle.transcript.specs.Orient.{interval, oriented};
 ghost use Rattle.transcript.specs.Admission.{admission};
 ghost use Rattle.locate.specs.Index.{indexScalars};
-ghost use Rattle.locate.specs.Sums.{ExonSums};
+ghost use Rattle.locate.specs.code.Sums.{ExonSums};
 ghost use Rattle.locate.specs.Place.{isExonicSpliceRegion, exonic, locate};
-ghost use Rattle.locate.specs.Search.{Holds, upstreamBy, downstreamBy};
+ghost use Rattle.locate.specs.code.Search.{Holds, upstreamBy, downstreamBy};
 
 pub(crate) fn upstream_place(ranges: Ranges, d: u64) -> VariantLocation
     ensures { λ r. ⌜ r ≡ upstreamBy ranges d ⌝ }
@@ -150,7 +150,14 @@ pub fn place_of_base(
             b,
             p,
         ),
-        ExonOrIntron::Intron(i, a, b) => classify_intronic(ranges, 0 < seg_starts.len(), i as u16, a, b, p),
+        ExonOrIntron::Intron(i, a, b) => classify_intronic(
+            ranges,
+            0 < seg_starts.len(),
+            i as u16,
+            a,
+            b,
+            p,
+        ),
         ExonOrIntron::Outside => VariantLocation::Distal,
     }
 }

@@ -12,9 +12,9 @@ ghost use lib.ListN.{length, getD};
 ghost use Rattle.transcript.specs.Limits.{top};
 ghost use Rattle.transcript.specs.Orient.{interval};
 ghost use Rattle.transcript.specs.Bases.{inside, insideAny, basesIn};
-ghost use Rattle.transcript.specs.Lent.{lentExons};
-ghost use Rattle.locate.specs.Search.{Ready};
-ghost use Rattle.locate.specs.Sums.{firstSum, Sums};
+ghost use Rattle.transcript.specs.code.Lent.{lentExons};
+ghost use Rattle.locate.specs.code.Search.{Ready};
+ghost use Rattle.locate.specs.code.Sums.{firstSum, Sums};
 
 // The sum at i and the bases from `start` to p.
 pub(crate) fn offset_at(sums: &[u32], i: usize, start: u64, p: u64) -> u32

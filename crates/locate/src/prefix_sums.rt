@@ -14,7 +14,7 @@ ghost use Rattle.transcript.specs.Orient.{oriented};
 ghost use Rattle.transcript.specs.Admission.{badExon, admission};
 ghost use Rattle.locate.specs.Index.{cumulative, locateIndex};
 ghost use Rattle.transcript.specs.Bases.{sum};
-ghost use Rattle.transcript.specs.Lent.{exonSize};
+ghost use Rattle.transcript.specs.code.Lent.{exonSize};
 
 // The lengths of the intervals, summed up from `first` on, stored from a place on.
 pub fn store_sums(sums: &mut [u32], at: usize, starts: &[u64], ends: &[u64], first: u32)

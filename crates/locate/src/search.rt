@@ -8,8 +8,8 @@ ghost use Prim.Native.Nat.{_+_, _-_, _≤_, _<_};
 ghost use lib.ListN.{length};
 ghost use Rattle.transcript.specs.Bases.{firstStart};
 ghost use Rattle.locate.specs.Find.{findExonOrIntron};
-ghost use Rattle.transcript.specs.Lent.{lentExons};
-ghost use Rattle.locate.specs.Search.{Ready, Started, exonOrIntron, FoundAt};
+ghost use Rattle.transcript.specs.code.Lent.{lentExons};
+ghost use Rattle.locate.specs.code.Search.{Ready, Started, exonOrIntron, FoundAt};
 
 // How many exons start at or before p, an oriented coordinate.
 pub fn started(starts: &[u64], ends: &[u64], strand: Strand, p: u64) -> usize

@@ -8,10 +8,10 @@ ghost use mathlib.Core.List.{map};
 ghost use Prim.Native.Nat.{_+_, _/_};
 ghost use Rattle.transcript.specs.Orient.{orientBase};
 ghost use Rattle.transcript.specs.Bases.{basesIn};
-ghost use Rattle.transcript.specs.Lent.{lentExons};
-ghost use Rattle.locate.specs.Sums.{firstSum};
+ghost use Rattle.transcript.specs.code.Lent.{lentExons};
+ghost use Rattle.locate.specs.code.Sums.{firstSum};
 ghost use Rattle.common.specs.Stored.{filled};
-ghost use Rattle.locate.specs.Coded.{Coded};
+ghost use Rattle.locate.specs.code.Coded.{Coded};
 
 // The codon number of each selenocysteine base.
 pub fn selenocysteine_codons(

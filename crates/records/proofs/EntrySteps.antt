@@ -34,7 +34,7 @@ use Rattle.transcript.specs.declared.Exon.{Exon}
 use Rattle.transcript.proofs.TranscriptModel as Mo
 use Rattle.transcript.proofs.TranscriptModel.Laws as Mo′
 use Rattle.transcript.proofs.Exon as X
-use Rattle.records.specs.Table.{Tabled}
+use Rattle.records.specs.code.Table.{Tabled}
 use Rattle.records.specs.declared.ExonTable.{ExonTable}
 use Rattle.records.proofs.ExonTable as B
 use Rattle.records.proofs.table.table_of as table-of

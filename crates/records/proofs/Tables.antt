@@ -23,7 +23,7 @@ use Rattle.consequence.specs.declared.Call.{Call}
 use Rattle.consequence.specs.declared.Called.{Called}
 use Rattle.consequence.proofs.Calling.{not-admitted}
 use Rattle.records.specs.Records.{evenSegments, lentRecords}
-use Rattle.records.specs.Table.{startsOf, endsOf, Tabled}
+use Rattle.records.specs.code.Table.{startsOf, endsOf, Tabled}
 use Rattle.records.specs.declared.ExonTable.{ExonTable}
 
 -- one number of each record, copied to an array of 512 one after the other

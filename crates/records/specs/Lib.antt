@@ -1,3 +1,3 @@
 pub mod Records
-pub mod Table
 pub mod Windows
+pub mod code

@@ -14,7 +14,7 @@ ghost use Rattle.footprint.specs.Ranges.{sourceRanges};
 ghost use Rattle.consequence.specs.Window.{windowWasGiven};
 ghost use Rattle.consequence.specs.Call.{annotateSnv};
 ghost use Rattle.records.specs.Records.{recordsLent, recordsWereGiven};
-ghost use Rattle.records.specs.Table.{Tabled};
+ghost use Rattle.records.specs.code.Table.{Tabled};
 ghost use Rattle.records.specs.Windows.{windowOf};
 
 // The call on the records of a table; over 512 records are refusal 1.

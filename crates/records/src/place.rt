@@ -11,7 +11,7 @@ ghost use Rattle.transcript.specs.declared.Exon.{Exon as Record};
 ghost use Rattle.footprint.specs.Ranges.{sourceRanges};
 ghost use Rattle.locate.specs.Query.{locateVariant};
 ghost use Rattle.records.specs.Records.{recordsLent, recordsWereGiven};
-ghost use Rattle.records.specs.Table.{Tabled};
+ghost use Rattle.records.specs.code.Table.{Tabled};
 
 // The place on the records of a table; over 512 records are refusal 1.
 fn locate_table(

@@ -1,7 +1,7 @@
 // The table of lent exon records.
 use super::ExonTable;
 use transcript::Exon;
-ghost use Rattle.records.specs.Table.{Tabled};
+ghost use Rattle.records.specs.code.Table.{Tabled};
 
 // The records' number, and the starts and ends of up to 512. Of a longer list none is copied.
 pub(crate) fn table_of(exons: &[Exon]) -> ExonTable

@@ -12,7 +12,7 @@ use Rattle.terms.specs.declared.Consequence.{Consequence}
 use Rattle.terms.specs.declared.Consequence.the-variants.{SpliceAcceptorVariant, SpliceDonorVariant, SpliceRegionVariant}
 use Rattle.terms.specs.Severity.{severityRank}
 use Rattle.terms.specs.Terms.{only, holdsTerm, withTerm, withTermIf, withoutTerm, spillTerms}
-use Rattle.terms.specs.Held.{sameTerm, HoldsOnly, HoldsWith, HoldsWithIf, HoldsWithout, HoldsSpilled}
+use Rattle.terms.specs.claims.Held.{sameTerm, HoldsOnly, HoldsWith, HoldsWithIf, HoldsWithout, HoldsSpilled}
 use Rattle.terms.proofs.Bit.{rank, shifted, held}
 
 -- bit t of the number is set

@@ -11,7 +11,7 @@ use borrow.Author.Tests.{eq-eqb, ne-eqb}
 use Rattle.common.specs.Lists.{any, memb, consIf}
 use Rattle.terms.specs.Severity.{severityRank}
 use Rattle.terms.specs.Terms.{ranksFrom, ranks}
-use Rattle.terms.specs.Held.{RanksHeld, Rising, RanksRise}
+use Rattle.terms.specs.claims.Held.{RanksHeld, Rising, RanksRise}
 use Rattle.terms.proofs.Bit.{rank}
 use Rattle.terms.proofs.Holding.{bit, bit-low, bit-next}
 

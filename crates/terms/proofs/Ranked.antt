@@ -7,7 +7,7 @@ use lib.ListN.{getD}
 use Rattle.terms.specs.declared.Consequence.{Consequence}
 use Rattle.terms.specs.declared.Consequence.the-variants.{TranscriptAblation, TranscriptAmplification, SpliceAcceptorVariant, SpliceDonorVariant, StopGained, FrameshiftVariant, StopLost, StartLost, InframeInsertion, InframeDeletion, MissenseVariant, ProteinAlteringVariant, SpliceRegionVariant, StartRetainedVariant, StopRetainedVariant, IncompleteTerminalCodonVariant, SynonymousVariant, CodingSequenceVariant, FivePrimeUtrVariant, ThreePrimeUtrVariant, NonCodingTranscriptExonVariant, IntronVariant, NonCodingTranscriptVariant, UpstreamGeneVariant, DownstreamGeneVariant, FeatureTruncation, FeatureElongation, IntergenicVariant}
 use Rattle.terms.specs.Severity.{severityRank}
-use Rattle.terms.specs.Held.{RanksDiffer}
+use Rattle.terms.specs.claims.Held.{RanksDiffer}
 
 unfoldable inOrder : List Consequence
 inOrder =

@@ -1,4 +1,4 @@
 pub mod Severity
 pub mod Terms
 pub mod Coding
-pub mod Held
+pub mod claims

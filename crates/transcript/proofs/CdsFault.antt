@@ -12,7 +12,7 @@ use Rattle.transcript.specs.Transcript.{cdsStart, cdsEnd, hasBounds}
 use Rattle.transcript.specs.Orient.{Interval, orient, orientBounds}
 use Rattle.transcript.specs.Bases.{insideAny}
 use Rattle.transcript.specs.Cuts.{Cut, cuts, sameCuts}
-use Rattle.transcript.specs.Lent.{cdsFault}
+use Rattle.transcript.specs.code.Lent.{cdsFault}
 
 module _ (coding : Bool) (cds : Interval) (xs : List Interval) (gs : List Cut) (c : coding ≡ true) where
   pub lacks-first : insideAny (cds .start) xs ≡ false → 10 ≡ cdsFault coding cds xs gs

@@ -14,7 +14,7 @@ use Rattle.common.proofs.TestParts.{on-test}
 use Rattle.transcript.specs.declared.Strand.{Strand}
 use Rattle.transcript.specs.Orient.{Interval, orient}
 use Rattle.transcript.specs.Cuts.{Cut, cutAt, meet, cuts, sameCut, sameCuts}
-use Rattle.transcript.specs.Lent.{listedCuts}
+use Rattle.transcript.specs.code.Lent.{listedCuts}
 use Rattle.transcript.proofs.Listed.{nowhere}
 
 -- segments that are lent apart, at an index

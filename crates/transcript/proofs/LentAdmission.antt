@@ -17,10 +17,9 @@ use Rattle.transcript.specs.Limits.{maxExons, coordinateLimit}
 use Rattle.transcript.specs.Transcript.{Transcript, exonsOf, segmentsOf, evenLists, lent, cdsStart, cdsEnd}
 use Rattle.transcript.specs.Orient.{Interval, orient, orientBounds, orientExon, oriented}
 use Rattle.transcript.specs.Bases.{insideAny}
-use Rattle.transcript.specs.Admission.{badNumbers, badCounts, badExon, overLimit, badScalars, badCoordinates, ascending, notOuter, badCdsBounds, indexFault, inNone, admission}
+use Rattle.transcript.specs.Admission.{badNumbers, badCounts, badExon, overLimit, badScalars, badCoordinates, ascending, notOuter, badCdsBounds, indexFault, inNone, admission, admissionOf}
 use Rattle.transcript.specs.Cuts.{cuts, sameCuts}
-use Rattle.transcript.specs.Lent.{holdsNone, phaseOver, padOfPhases, listedCuts, badListed, cdsFault}
-use Rattle.transcript.specs.Admission.{admissionOf}
+use Rattle.transcript.specs.code.Lent.{holdsNone, phaseOver, padOfPhases, listedCuts, badListed, cdsFault}
 use Rattle.transcript.proofs.Listed.{exons-length}
 use Rattle.transcript.proofs.LentSegments.{Even, Lent, lent-segments, none-oriented}
 

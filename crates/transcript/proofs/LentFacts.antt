@@ -14,7 +14,7 @@ use Rattle.transcript.specs.Limits.{maxExons, maxSelenocysteine, coordin
 use Rattle.transcript.specs.Transcript.{exonsOf, evenLists, lent, cdsStart, cdsEnd}
 use Rattle.transcript.specs.Orient.{Interval, orientExon, oriented}
 use Rattle.transcript.specs.Admission.{badExon, overLimit, ascending, admission}
-use Rattle.transcript.specs.Lent.{phaseOver, padOfPhases}
+use Rattle.transcript.specs.code.Lent.{phaseOver, padOfPhases}
 use Rattle.transcript.proofs.Ascends.{Ascends}
 use Rattle.transcript.proofs.Cuts.{cuts-ascend}
 use Rattle.transcript.proofs.Facts.{Facts}

@@ -19,7 +19,7 @@ use Rattle.transcript.specs.Orient.{Interval, orient, orientBase, orient
 use Rattle.transcript.specs.Bases.{insideAny}
 use Rattle.transcript.specs.Admission.{badExon, badSegment, overTwo, indexOf, inNone}
 use Rattle.transcript.specs.Cuts.{Cut, cutAt, cutOf}
-use Rattle.transcript.specs.Lent.{holds, holdsNone, phaseOver, padOfPhases, listedCuts}
+use Rattle.transcript.specs.code.Lent.{holds, holdsNone, phaseOver, padOfPhases, listedCuts}
 use Rattle.transcript.proofs.Orient.{inside-orient}
 
 -- lists of one length

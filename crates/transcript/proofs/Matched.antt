@@ -11,7 +11,7 @@ use Rattle.transcript.specs.declared.Strand.{Strand}
 use Rattle.transcript.specs.Transcript.{exonsOf}
 use Rattle.transcript.specs.Orient.{Interval, interval, orient, orientExon}
 use Rattle.transcript.specs.Cuts.{Cut, cutAt, meet, cuts, sameCut, sameCuts}
-use Rattle.transcript.specs.Lent.{listedCuts, Cuttable}
+use Rattle.transcript.specs.code.Lent.{listedCuts, Cuttable}
 use Rattle.transcript.proofs.Listed.{nowhere, oriented-length, oriented-at}
 use Rattle.transcript.proofs.CutSteps.{listed-length, listed-at, cut-pass, cut-lacks, cut-differs, cut-same, cut-end}
 

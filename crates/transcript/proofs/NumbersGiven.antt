@@ -15,7 +15,8 @@ use Rattle.transcript.specs.Transcript.{Transcript}
 use Rattle.transcript.specs.Orient.{oriented}
 use Rattle.transcript.specs.Admission.{badCounts, badCoordinates, badOrder, badBounds, badCds, badPhase, badPad, indexOf, indexFault, lacksFirst, lacksLast, badSegments, badSelenocysteine, admission}
 use Rattle.transcript.specs.Question.{questionRefusal}
-use Rattle.transcript.specs.Numbers.{NumberGiven, AdmissionGiven, admissionNumber, admissionNumbers, isAdmitted}
+use Rattle.transcript.specs.claims.Numbers.{NumberGiven, AdmissionGiven, admissionNumbers}
+use Rattle.transcript.specs.Numbers.{admissionNumber, isAdmitted}
 
 -- the first refusal of two is among the numbers that both are among
 pub among-refuse : (ns : List ℕ) (b : Bool) (n later : ℕ) → memb n ns ≡ true → memb later ns ≡ true → memb (refuse b n later) ns ≡ true

@@ -9,8 +9,8 @@ use lib.ListN.{length, getD}
 use borrow.Author.Tests.{ltb-false}
 use Rattle.common.specs.Lists.{any}
 use Rattle.common.proofs.Lists.{any-none}
-use Rattle.transcript.specs.Pads.{PhaseCompletesPad}
-use Rattle.transcript.specs.Lent.{phaseOver, padOfPhases}
+use Rattle.transcript.specs.claims.Phases.{PhaseCompletesPad}
+use Rattle.transcript.specs.code.Lent.{phaseOver, padOfPhases}
 
 pub pad-empty : (ps : List ℕ) → length ps ≡ 0 → 0 ≡ padOfPhases ps
 pad-empty [] h = refl

@@ -6,6 +6,5 @@ pub mod Cuts
 pub mod Admission
 pub mod Numbers
 pub mod Question
-pub mod Lent
-pub mod Refused
-pub mod Pads
+pub mod code
+pub mod claims

@@ -15,7 +15,7 @@ ghost use Rattle.transcript.specs.Transcript.{exonsOf};
 ghost use Rattle.transcript.specs.Orient.{interval, orient, orientExon};
 ghost use Rattle.transcript.specs.Admission.{badExon};
 ghost use Rattle.transcript.specs.Cuts.{cutAt, cuts, sameCut, sameCuts};
-ghost use Rattle.transcript.specs.Lent.{listedCuts, Cuttable, cdsFault};
+ghost use Rattle.transcript.specs.code.Lent.{listedCuts, Cuttable, cdsFault};
 
 pub(crate) fn larger(a: u64, b: u64) -> u64
     ensures { λ r. ⌜ r ≡ max a b ⌝ }

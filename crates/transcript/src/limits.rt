@@ -6,7 +6,7 @@ ghost use lib.ListN.{length};
 ghost use Rattle.common.specs.Lists.{any};
 ghost use Rattle.transcript.specs.Transcript.{exonsOf, evenLengths, cdsStart, cdsEnd};
 ghost use Rattle.transcript.specs.Admission.{badNumbers, badExon, overLimit, badScalars};
-ghost use Rattle.transcript.specs.Lent.{badListed};
+ghost use Rattle.transcript.specs.code.Lent.{badListed};
 
 // The largest coordinate of a transcript.
 const LIMIT: u64 = 1_000_000_000;

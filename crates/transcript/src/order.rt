@@ -14,7 +14,7 @@ ghost use Rattle.transcript.specs.Limits.{coordinateLimit};
 ghost use Rattle.transcript.specs.Transcript.{exonsOf};
 ghost use Rattle.transcript.specs.Orient.{orient, orientExon};
 ghost use Rattle.transcript.specs.Admission.{badExon, ascending, notOuter, badCdsBounds};
-ghost use Rattle.transcript.specs.Lent.{phaseOver, padOfPhases};
+ghost use Rattle.transcript.specs.code.Lent.{phaseOver, padOfPhases};
 
 // Whether each exon starts at or after the end of the one before it, in strand order.
 pub(crate) fn in_order(starts: &[u64], ends: &[u64], strand: Strand) -> bool

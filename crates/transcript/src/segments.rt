@@ -9,7 +9,7 @@ ghost use Rattle.transcript.specs.Transcript.{exonsOf};
 ghost use Rattle.transcript.specs.Orient.{interval};
 ghost use Rattle.transcript.specs.Bases.{inside};
 ghost use Rattle.transcript.specs.Admission.{indexFault};
-ghost use Rattle.transcript.specs.Lent.{holds, holdsNone};
+ghost use Rattle.transcript.specs.code.Lent.{holds, holdsNone};
 
 // 8, 9: the first index that names no exon, or one that an earlier index names.
 pub(crate) fn index_fault(exons: usize, indexes: &[u16]) -> u8

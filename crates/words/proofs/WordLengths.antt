@@ -7,8 +7,8 @@ use Rattle.locate.specs.declared.VariantLocation.{VariantLocation}
 use Rattle.locate.specs.declared.VariantLocation.the-variants.{Upstream, Downstream, Distal, FivePrimeUtr, CdsExon, ThreePrimeUtr, SpliceDonor, SpliceAcceptor, SpliceRegion, Intron, FrameshiftIntron, NonCodingExon, NonCodingIntron}
 use Rattle.locate.specs.declared.Located.{Located}
 use Rattle.consequence.specs.declared.Called.{Called}
-use Rattle.words.specs.Words.{placeWords, locatedWords}
-use Rattle.words.specs.CallWords.{columnWords, calledWords}
+use Rattle.locate.specs.Numbers.{placeWords, locatedWords}
+use Rattle.consequence.specs.Numbers.{columnWords, calledWords}
 
 pub place-length : (place : VariantLocation) → length (placeWords place) ≡ 7
 place-length (Upstream d) = refl

@@ -10,8 +10,8 @@ ghost use mathlib.Core.Path.{_≡_};
 ghost use lib.ListN.{length};
 ghost use lib.Seq.{sets};
 ghost use Rattle.consequence.specs.declared.Called.{Called};
-ghost use Rattle.words.specs.CallWords.{calledWords};
-ghost use Rattle.words.specs.Row.{Near, NearCalled};
+ghost use Rattle.consequence.specs.Numbers.{calledWords};
+ghost use Rattle.words.specs.code.Near.{Near, NearCalled};
 
 fn put_result(out: &mut [i64], at: usize, a: ConsequenceResult)
     requires { ⌜ (at + 20 ≤ length (now out)) × Near (a .location) ⌝ }

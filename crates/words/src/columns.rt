@@ -3,8 +3,8 @@ use crate::words::put_counts;
 use codon::AminoAcids;
 use codon::Codon;
 use codon::Codons;
-use consequence::ConsequenceResult;
 use consequence::CdnaCounted;
+use consequence::ConsequenceResult;
 use consequence::Counted;
 use consequence::Numbered;
 use consequence::cdna_count;
@@ -13,8 +13,7 @@ ghost use mathlib.Core.Path.{_≡_};
 ghost use lib.ListN.{length};
 ghost use lib.Seq.{sets};
 ghost use Rattle.consequence.specs.Answer.{cdnaCount};
-ghost use Rattle.words.specs.CallWords.{numberOf, totalOf, countOf, codonWord, referenceWord, alteredWord};
-ghost use Rattle.words.specs.CallWords.{changedPlace, lettersWord, columnWords};
+ghost use Rattle.consequence.specs.Numbers.{numberOf, totalOf, countOf, codonWord, referenceWord, alteredWord, changedPlace, lettersWord, columnWords};
 
 fn number_of(n: Numbered) -> u32
     ensures { λ r. ⌜ r ≡ numberOf n ⌝ }

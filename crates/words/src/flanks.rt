@@ -9,7 +9,9 @@ ghost use mathlib.Core.Path.{_≡_};
 ghost use lib.ListN.{length};
 ghost use Rattle.footprint.specs.declared.Flanked.{Flanked};
 ghost use Rattle.footprint.specs.declared.Spilled.{Spilled};
-ghost use Rattle.words.specs.IntervalWords.{flankKind, flankLength, endpointFlag, endpointIndex, intervalWords, NearFlank};
+ghost use Rattle.footprint.specs.Numbers.{flankKind, flankLength, endpointFlag, endpointIndex};
+ghost use Rattle.words.specs.IntervalWords.{intervalWords};
+ghost use Rattle.words.specs.code.Near.{NearFlank};
 
 fn flank_kind(flank: Flank) -> u32
     ensures { λ r. ⌜ r ≡ flankKind flank ⌝ }

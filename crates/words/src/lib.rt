@@ -17,5 +17,7 @@ pub use model::model_of;
 
 // How many numbers an answer has: of a place, of a call, of an interval.
 pub const PLACE_WORDS: usize = 8;
+
 pub const CALL_WORDS: usize = 20;
+
 pub const INTERVAL_WORDS: usize = 7;

@@ -12,8 +12,9 @@ ghost use lib.ListN.{length};
 ghost use lib.IntN.{pos};
 ghost use lib.Seq.{sets};
 ghost use Rattle.locate.specs.declared.Located.{Located};
-ghost use Rattle.words.specs.Words.{locatedWords};
-ghost use Rattle.words.specs.Row.{rowWords, NearAt};
+ghost use Rattle.locate.specs.Numbers.{locatedWords};
+ghost use Rattle.words.specs.code.Row.{rowWords};
+ghost use Rattle.words.specs.code.Near.{NearAt};
 
 // A place behind the number 0.
 pub(crate) fn put_row(out: &mut [i64], at: usize, row: Row)

@@ -5,8 +5,10 @@ use locate::VariantLocation;
 ghost use mathlib.Core.Path.{_≡_};
 ghost use mathlib.Core.List.{_∷_};
 ghost use lib.IntN.{pos};
-ghost use Rattle.words.specs.Words.{flag, sideNumber, plainWords, placeWords};
-ghost use Rattle.words.specs.Row.{rowWords, Near};
+ghost use Rattle.common.specs.Flag.{flag};
+ghost use Rattle.locate.specs.Numbers.{sideNumber, plainWords, placeWords};
+ghost use Rattle.words.specs.code.Row.{rowWords};
+ghost use Rattle.words.specs.code.Near.{Near};
 
 // The numbers of a place. All but the distance count.
 pub(crate) struct Row {

@@ -13,7 +13,7 @@ use Rattle.transcript.specs.declared.TranscriptModel.{TranscriptModel}
 use Rattle.transcript.specs.Transcript.{Transcript, exonsOf, evenLists, lent}
 use Rattle.transcript.specs.Admission.{admission}
 use Rattle.transcript.specs.Orient.{orientBounds, orientExon}
-use Rattle.transcript.specs.Lent.{cdsFault, listedCuts}
+use Rattle.transcript.specs.code.Lent.{cdsFault, listedCuts}
 use Rattle.transcript.proofs.LentSegments.{Even}
 use Rattle.transcript.proofs.Admitted.{cds-bounds}
 use Rattle.transcript.proofs.CdsFault.{fault-bounds}

@@ -16,7 +16,7 @@ use Rattle.locate.specs.declared.IndexScalars.{IndexScalars}
 use Rattle.consequence.specs.declared.Called.{Called}
 use Rattle.consequence.specs.Window.{Window}
 use Rattle.consequence.specs.Call.{openingRefusal, annotateSnv}
-use Rattle.consequence.specs.Prepared.{Prepared}
+use Rattle.consequence.specs.code.Prepared.{Prepared}
 use Rattle.consequence.proofs.Refusals.{opening-within}
 use Rattle.consequence.proofs.Preparing.{exons-at, exons-ready}
 use Rattle.consequence.proofs.Calling.{spilled, refused-same, refused, answered}

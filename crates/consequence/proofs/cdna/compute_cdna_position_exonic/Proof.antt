@@ -10,10 +10,10 @@ use Rattle.transcript.specs.declared.Strand.{Strand}
 use Rattle.transcript.specs.Limits.{top}
 use Rattle.transcript.specs.Orient.{orient}
 use Rattle.transcript.specs.Bases.{basesIn}
-use Rattle.transcript.specs.Lent.{lentExons}
+use Rattle.transcript.specs.code.Lent.{lentExons}
 use Rattle.transcript.proofs.Listed.{nowhere}
-use Rattle.locate.specs.Search.{Ready}
-use Rattle.locate.specs.Sums.{firstSum, Sums}
+use Rattle.locate.specs.code.Search.{Ready}
+use Rattle.locate.specs.code.Sums.{firstSum, Sums}
 use Rattle.locate.proofs.Searching.{count, end-low}
 use Rattle.consequence.proofs.ExonBases.{from-le, read-bases, bases-low}
 use borrow.Author.Needs.{needs}

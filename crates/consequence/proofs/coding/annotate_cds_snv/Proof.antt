@@ -12,8 +12,8 @@ use Rattle.consequence.specs.declared.region.Region.{Region}
 use Rattle.codon.specs.Table.{standardTable, buildAltCodon}
 use Rattle.consequence.specs.Window.{codingByte}
 use Rattle.consequence.specs.Reading.{incompleteAt}
-use Rattle.consequence.specs.AtPlace.{codingCalled}
-use Rattle.consequence.specs.Answer.{columnsOf, exonResult, codonResult, readCodon, codonColumns}
+use Rattle.consequence.specs.code.AtPlace.{codingCalled, columnsOf}
+use Rattle.consequence.specs.Answer.{exonResult, codonResult, readCodon, codonColumns}
 use borrow.Author.Needs.{needs}
 use Rattle.consequence.proofs.coding.annotate_cds_snv.Statement.{statement}
 use Rattle.consequence.proofs.coding.annotate_cds_snv.Tie as tie
@@ -81,7 +81,7 @@ returns-2 c =
     let unfinished = c .before .before .before .before .before .before .is-incomplete-terminal-codon .ensures ∙ ap (λ (n : ℕ). incompleteAt n (b .args .offset)) (sym (total-of b t hs)) in
     let held = c .before .before .before .before .before .holds-selenocysteine .ensures t (ap (λ (x : IndexScalars). x .«selenocysteine_count») hs) hu in
     let columns = c .before .before .before .read-codon .ensures t start padded unfinished held ∙ ap (λ (n : ℕ). readCodon standardTable t (b .args .offset) (b .args .number) bases (buildAltCodon bases (b .args .position) n) (b .args .position)) (c .before .before .before .before .coding-byte .ensures) in
-    ap Called.Answered 
+    ap Called.Answered
     (c .exon-result .ensures t p he (hd ∙ sym (c .before .before .cdna-position .ensures))
     ∙ ap (λ (n : ℕ). exonResult t p (b .args .place) (b .args .i) (columnsOf (c .before .before .before .read-codon .result)) n) (c .before .with-mark .ensures)
     ∙ ap (codonResult t p (b .args .place) (Region.Coding (b .args .i) (b .args .offset) (b .args .number) (b .args .position) (b .args .mark))) columns)

@@ -12,8 +12,8 @@ use Rattle.transcript.specs.Transcript.{Transcript, lent}
 use Rattle.transcript.specs.Orient.{oriented}
 use Rattle.locate.specs.declared.IndexScalars.{IndexScalars}
 use Rattle.consequence.specs.Region.{regionOf, withMark}
-use Rattle.consequence.specs.AtPlace.{regionCalled, placeCalled}
-use Rattle.consequence.specs.Prepared.{Prepared}
+use Rattle.consequence.specs.code.AtPlace.{regionCalled, placeCalled}
+use Rattle.consequence.specs.code.Prepared.{Prepared}
 use Rattle.consequence.specs.declared.FetchedCodon.{FetchedCodon}
 use Rattle.consequence.specs.declared.Called.{Called}
 use Rattle.consequence.specs.declared.region.Region.{Region}

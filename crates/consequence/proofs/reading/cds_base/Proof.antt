@@ -8,7 +8,7 @@ use lib.ListN.{length}
 use borrow.Author.Tests.{lt-ltb, le-ltb}
 use Rattle.transcript.specs.declared.Strand.{Strand}
 use Rattle.consequence.specs.Reading.{cdsBase}
-use Rattle.consequence.specs.Segments.{Segments, Held}
+use Rattle.consequence.specs.code.Segments.{Segments, Held}
 use Rattle.consequence.proofs.CodingBases.{reach, sum-le, in-segment, base-is}
 use borrow.Author.Needs.{needs}
 use Rattle.consequence.proofs.reading.cds_base.Statement.{statement}

@@ -8,12 +8,12 @@ use denote.Ref.{now}
 use lib.ListN.{length, getD}
 use lib.Dec.{ltb}
 use Rattle.transcript.specs.Orient.{Oriented}
-use Rattle.transcript.specs.Lent.{lentExons}
+use Rattle.transcript.specs.code.Lent.{lentExons}
 use Rattle.locate.specs.Place.{totalCdsLength}
 use Rattle.consequence.specs.declared.FetchedBase.{FetchedBase}
 use Rattle.consequence.specs.Window.{windowFrom, codingBase}
 use Rattle.consequence.specs.Reading.{cdsBase, lengthAt, codonLength}
-use Rattle.consequence.specs.Segments.{Held}
+use Rattle.consequence.specs.code.Segments.{Held}
 use Rattle.consequence.proofs.CodingBases.{reach, held-next}
 use Rattle.consequence.proofs.CodonBases.{length-within, outside-first, one-base, outside-second, two-bases, outside-third, three-bases}
 use borrow.Author.Needs.{needs}

@@ -7,7 +7,7 @@ use native.Mathlib.Omega.{arith}
 use denote.Ref.{now}
 use lib.ListN.{length}
 use Rattle.common.proofs.Filling.{front}
-use Rattle.deck.specs.Table.{numberOf}
+use Rattle.deck.specs.code.Table.{numberOf}
 use Rattle.deck.proofs.Columned.{column-step, column-done, whole-record}
 use Rattle.deck.proofs.columns.numbers_of.Statement.{statement}
 use Rattle.deck.proofs.columns.numbers_of.Tie as tie

@@ -6,7 +6,7 @@ use native.Mathlib.Omega.{arith}
 use denote.Ref.{now}
 use borrow.Author.Needs.{needs}
 use Rattle.deck.specs.declared.DeckTable.{DeckTable}
-use Rattle.deck.specs.Table.{rowsFrom, admitRows}
+use Rattle.deck.specs.code.Table.{rowsFrom, admitRows}
 use Rattle.deck.proofs.RowOrder.{rowsOn, admit-on, admit-stop, admit-none}
 use Rattle.deck.proofs.read.admit_rows.Statement.{statement}
 use Rattle.deck.proofs.read.admit_rows.Tie as tie

@@ -8,7 +8,7 @@ use lib.ListN.{length, take}
 use lib.Seq.{length-take-le}
 use borrow.Author.Needs.{needs}
 use Rattle.deck.specs.Walk.{walkDeck}
-use Rattle.deck.specs.Order.{orderOf}
+use Rattle.deck.specs.code.Order.{orderOf}
 use Rattle.deck.proofs.Inside.{deck-in}
 use Rattle.deck.proofs.Accepted.{refused-deck, sound-read}
 use Rattle.deck.proofs.read.read_deck.Statement.{statement}

@@ -9,7 +9,7 @@ use denote.Ref.{now}
 use lib.ListN.{getD}
 use lib.Dec.{eqb}
 use borrow.Author.Tests.{eq-eqb, ne-eqb}
-use Rattle.deck.specs.Table.{runEnd}
+use Rattle.deck.specs.code.Table.{runEnd}
 use Rattle.deck.proofs.Lowest.{lowest-on, lowest-here, lowest-none}
 use Rattle.deck.proofs.rows.run_end.Statement.{statement}
 use Rattle.deck.proofs.rows.run_end.Tie as tie

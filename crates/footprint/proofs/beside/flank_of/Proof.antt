@@ -1,7 +1,7 @@
 -- `footprint::beside::flank_of` meets its contract.
 -- Assumes nothing.
 use native.Mathlib.Omega.{arith}
-use Rattle.footprint.specs.Lent.{spanOf}
+use Rattle.footprint.specs.code.Lent.{spanOf}
 use Rattle.footprint.proofs.Flanking.{far-up, near-up, within, far-down, near-down}
 use Rattle.footprint.proofs.beside.flank_of.Statement.{statement}
 use Rattle.footprint.proofs.beside.flank_of.Tie as tie

@@ -7,7 +7,7 @@ use native.Mathlib.Omega.{arith}
 use denote.Ref.{now}
 use lib.ListN.{length, drop}
 use Rattle.transcript.specs.Orient.{Interval}
-use Rattle.footprint.specs.Lent.{spanOf, lentGaps}
+use Rattle.footprint.specs.code.Lent.{spanOf, lentGaps}
 use Rattle.footprint.specs.ShortIntron.{endsIn, endpointFrom}
 use Rattle.footprint.proofs.GapList.{gap-in, gap-end}
 use Rattle.footprint.proofs.Endpoints.{endpoint-stop, endpoint-go, endpoint-none}

@@ -2,7 +2,7 @@
 -- Assumes nothing.
 use mathlib.Core.Path.{sym, _∙_}
 use native.Mathlib.Omega.{arith}
-use Rattle.footprint.specs.Lent.{spanOf}
+use Rattle.footprint.specs.code.Lent.{spanOf}
 use Rattle.footprint.proofs.Endpoints.{insertion-before, insertion-after, first-in, first-out}
 use borrow.Author.Needs.{needs}
 use Rattle.footprint.proofs.ends.holds_end.Statement.{statement}

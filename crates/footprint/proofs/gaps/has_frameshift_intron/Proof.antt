@@ -10,7 +10,7 @@ use Rattle.common.specs.Lists.{any}
 use Rattle.common.proofs.Lists.{any-stop, any-go, any-end}
 use Rattle.transcript.specs.Orient.{Interval}
 use Rattle.transcript.proofs.Listed.{nowhere}
-use Rattle.footprint.specs.Lent.{lentGaps}
+use Rattle.footprint.specs.code.Lent.{lentGaps}
 use Rattle.footprint.specs.ShortIntron.{isFrameshiftGap}
 use Rattle.footprint.proofs.GapList.{gap-in, gap-end}
 use Rattle.footprint.proofs.gaps.has_frameshift_intron.Statement.{statement}

@@ -2,7 +2,7 @@
 -- Assumes nothing.
 use native.Mathlib.Omega.{arith}
 use borrow.Author.Needs.{needs}
-use Rattle.footprint.specs.Lent.{spanOf}
+use Rattle.footprint.specs.code.Lent.{spanOf}
 use Rattle.footprint.proofs.GapList.{no-gap, some-gap}
 use Rattle.footprint.proofs.gaps.is_frameshift_gap.Statement.{statement}
 use Rattle.footprint.proofs.gaps.is_frameshift_gap.Tie as tie

@@ -2,7 +2,7 @@
 -- Assumes nothing.
 use mathlib.Core.Path.{sym, _∙_}
 use borrow.Author.Needs.{needs}
-use Rattle.footprint.specs.Lent.{spanOf}
+use Rattle.footprint.specs.code.Lent.{spanOf}
 use Rattle.footprint.proofs.Spills.{touches, apart}
 use Rattle.footprint.proofs.windows.hits_window.Statement.{statement}
 use Rattle.footprint.proofs.windows.hits_window.Tie as tie

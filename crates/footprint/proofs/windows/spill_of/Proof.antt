@@ -7,7 +7,7 @@ use native.Mathlib.Omega.{arith}
 use denote.Ref.{now}
 use lib.ListN.{length}
 use Rattle.transcript.specs.Orient.{Interval, interval}
-use Rattle.footprint.specs.Lent.{lentGaps}
+use Rattle.footprint.specs.code.Lent.{lentGaps}
 use Rattle.footprint.specs.ShortIntron.{donorWindow, acceptorWindow, exonicSpliceSpill}
 use Rattle.footprint.proofs.GapList.{gap-in, gap-end}
 use Rattle.footprint.proofs.Spills.{Gathered, gathered-go, gathered-end}

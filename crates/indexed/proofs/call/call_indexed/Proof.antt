@@ -5,7 +5,7 @@ use Prim.Native.Nat.{ℕ}
 use denote.Ref.{now}
 use lib.ListN.{drop}
 use Rattle.transcript.specs.Transcript.{lent}
-use Rattle.deck.specs.Table.{transcriptIn}
+use Rattle.deck.specs.code.Table.{transcriptIn}
 use Rattle.deck.proofs.Runs.{lent-in}
 use Rattle.indexed.proofs.IndexedCalls.{row-low, summed-as}
 use native.Mathlib.Omega.{arith}

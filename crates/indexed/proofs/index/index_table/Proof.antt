@@ -6,7 +6,7 @@ use denote.Ref.{now}
 use lib.ListN.{length, length-replicate}
 use Rattle.deck.specs.declared.DeckTable.{DeckTable}
 use Rattle.deck.proofs.RowOrder.{rowsOn, row-inside}
-use Rattle.indexed.specs.TableIndex.{indexRows, emptyIndex, tableIndex}
+use Rattle.indexed.specs.code.TableIndex.{indexRows, emptyIndex, tableIndex}
 use Prim.Native.Nat.{ℕ, _-_, _<_}
 use Rattle.indexed.proofs.WholeIndex.{index-on, index-end}
 use Rattle.indexed.proofs.index.index_table.Statement.{statement}

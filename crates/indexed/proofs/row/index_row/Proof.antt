@@ -3,7 +3,7 @@
 use mathlib.Core.Path.{_≡_}
 use denote.Ref.{now}
 use Rattle.transcript.specs.Transcript.{lent}
-use Rattle.deck.specs.Table.{transcriptIn}
+use Rattle.deck.specs.code.Table.{transcriptIn}
 use Rattle.deck.proofs.Runs.{lent-in}
 use Rattle.indexed.proofs.IndexRows.{exons-fit, segments-fit}
 use borrow.Author.Needs.{needs}

@@ -12,9 +12,8 @@ use Rattle.transcript.specs.Transcript.{Transcript, lent}
 use Rattle.footprint.specs.Ranges.{sourceRanges}
 use Rattle.consequence.specs.declared.Called.{Called}
 use Rattle.consequence.specs.Window.{Window}
-use Rattle.consequence.specs.Numbers.{calledNumber}
+use Rattle.consequence.specs.Numbers.{calledNumber, calledWords}
 use Rattle.consequence.specs.Call.{annotateSnv}
-use Rattle.words.specs.CallWords.{calledWords}
 use Rattle.words.proofs.Putting.{whole}
 use Rattle.words.proofs.WordLengths.{called-length}
 use Rattle.interface.proofs.Leaving.{misfit, refused, answered}

@@ -13,7 +13,7 @@ use Rattle.consequence.specs.declared.Call.{Call}
 use Rattle.consequence.specs.declared.Called.{Called}
 use Rattle.consequence.specs.Window.{Window}
 use Rattle.consequence.specs.Call.{annotateSnv}
-use Rattle.words.specs.CallWords.{calledWords}
+use Rattle.consequence.specs.Numbers.{calledWords}
 use Rattle.words.proofs.WordLengths.{called-length}
 use Rattle.interface.specs.Calls.{callOf, callsOf, callWords}
 use Rattle.interface.proofs.Blocks.{filledTo, filled-none, filled-length, filled-more, filled-all}

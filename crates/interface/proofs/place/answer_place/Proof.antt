@@ -11,9 +11,8 @@ use denote.Ref.{now}
 use Rattle.transcript.specs.Transcript.{Transcript, lent}
 use Rattle.footprint.specs.Ranges.{sourceRanges}
 use Rattle.locate.specs.declared.Located.{Located}
-use Rattle.locate.specs.Numbers.{locatedNumber}
+use Rattle.locate.specs.Numbers.{locatedNumber, locatedWords}
 use Rattle.locate.specs.Query.{locateVariant}
-use Rattle.words.specs.Words.{locatedWords}
 use Rattle.words.proofs.Putting.{whole}
 use Rattle.words.proofs.WordLengths.{located-length}
 use Rattle.interface.proofs.Nearness.{near-located}

@@ -12,7 +12,7 @@ use Rattle.transcript.specs.Transcript.{Transcript, lent}
 use Rattle.footprint.specs.declared.Ranges.{Ranges}
 use Rattle.locate.specs.declared.Located.{Located}
 use Rattle.locate.specs.Query.{locatePosition}
-use Rattle.words.specs.Words.{locatedWords}
+use Rattle.locate.specs.Numbers.{locatedWords}
 use Rattle.words.proofs.WordLengths.{located-length}
 use Rattle.interface.specs.Lists.{positionWords}
 use Rattle.interface.proofs.Blocks.{filledTo, filled-none, filled-length, filled-more, filled-all}

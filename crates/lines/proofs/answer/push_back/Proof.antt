@@ -2,7 +2,7 @@
 -- Assumes nothing.
 use native.Mathlib.Omega.{arith}
 use Rattle.common.proofs.Stored.{pushed-on}
-use Rattle.lines.specs.Line.{backColumns}
+use Rattle.lines.specs.code.Columns.{backColumns}
 use borrow.Author.Needs.{needs}
 use Rattle.lines.proofs.answer.push_back.Statement.{statement}
 use Rattle.lines.proofs.answer.push_back.Tie as tie

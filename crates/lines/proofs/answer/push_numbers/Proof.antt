@@ -4,7 +4,7 @@ use Rattle.common.specs.Stored.{Pushed}
 use native.Mathlib.Omega.{arith}
 use denote.Ref.{now}
 use Rattle.common.proofs.Stored.{pushed-on, pushed-length}
-use Rattle.lines.specs.Line.{numberColumns}
+use Rattle.lines.specs.code.Columns.{numberColumns}
 use borrow.Author.Needs.{needs}
 use Rattle.lines.proofs.answer.push_numbers.Statement.{statement}
 use Rattle.lines.proofs.answer.push_numbers.Tie as tie

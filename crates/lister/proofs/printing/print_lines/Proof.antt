@@ -8,7 +8,7 @@ use lib.ListN.{length, drop, length-take, length-drop}
 use lib.Seq.{length-take-le}
 use borrow.Author.Needs.{needs}
 use borrow.Rule.Slice.PartMut.{putMid, midOf, same-len-mid}
-use Rattle.listing.specs.Steps.{left}
+use Rattle.listing.specs.code.Steps.{left}
 use Rattle.lister.proofs.Advanced.{is-true, less-left, less-held, line-advances}
 use Rattle.lister.proofs.printing.print_lines.Statement.{statement}
 use Rattle.lister.proofs.printing.print_lines.Tie as tie

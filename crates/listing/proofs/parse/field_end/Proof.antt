@@ -5,7 +5,7 @@ use mathlib.Core.Path.{_≡_, refl}
 use native.Mathlib.Omega.{arith}
 use denote.Ref.{now}
 use lib.ListN.{length, drop}
-use Rattle.listing.specs.Calls.{fieldLength}
+use Rattle.listing.specs.code.Lengths.{fieldLength}
 use Rattle.listing.proofs.Lines.{field-on, field-stop, field-none}
 use Rattle.listing.proofs.parse.field_end.Statement.{statement}
 use Rattle.listing.proofs.parse.field_end.Tie as tie

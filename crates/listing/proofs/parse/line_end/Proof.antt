@@ -5,7 +5,7 @@ use mathlib.Core.Path.{_≡_, refl}
 use native.Mathlib.Omega.{arith}
 use denote.Ref.{now}
 use lib.ListN.{length, drop}
-use Rattle.listing.specs.Calls.{lineLength}
+use Rattle.listing.specs.code.Lengths.{lineLength}
 use Rattle.listing.proofs.Lines.{line-on, line-stop, line-none}
 use Rattle.listing.proofs.parse.line_end.Statement.{statement}
 use Rattle.listing.proofs.parse.line_end.Tie as tie

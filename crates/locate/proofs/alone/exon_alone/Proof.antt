@@ -12,7 +12,7 @@ use Rattle.transcript.specs.declared.TranscriptModel.{TranscriptModel}
 use Rattle.transcript.specs.Limits.{top, maxExons}
 use Rattle.transcript.specs.Transcript.{cdsStart, cdsEnd}
 use Rattle.transcript.specs.Orient.{interval, orient}
-use Rattle.locate.specs.Exonic.{Counts, counts, Countable}
+use Rattle.locate.specs.code.Exonic.{Counts, counts, Countable}
 use Rattle.locate.proofs.LentTranscript.{known, ad, ready}
 use Rattle.locate.proofs.LentIndex.{first-holding}
 use Rattle.locate.proofs.AloneFacts.{segments-low, index-low, end-high, held, without-cds, countable-alone, exonic-alone}

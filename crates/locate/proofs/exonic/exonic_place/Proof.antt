@@ -7,7 +7,7 @@ use borrow.Author.Tests.{not-true, not-false}
 use lib.IntN.{ℤ}
 use Rattle.locate.specs.declared.VariantLocation.the-variants.{FivePrimeUtr, ThreePrimeUtr}
 use Rattle.transcript.specs.Orient.{interval}
-use Rattle.locate.specs.Exonic.{counts}
+use Rattle.locate.specs.code.Exonic.{counts}
 use Rattle.locate.proofs.Signed.{counted, minus-fits, minus-is}
 use Rattle.locate.proofs.Exons.{is-non-coding, is-five, is-three, is-cds}
 use borrow.Author.Needs.{needs}

@@ -9,7 +9,7 @@ use denote.Ref.{now}
 use lib.ListN.{getD}
 use Rattle.transcript.specs.Transcript.{exonsOf}
 use Rattle.locate.specs.Index.{cumulative}
-use Rattle.transcript.specs.Lent.{exonSize}
+use Rattle.transcript.specs.code.Lent.{exonSize}
 use Rattle.transcript.proofs.Listed.{edges-at}
 use Rattle.locate.proofs.PrefixSums.{cumulative-first, sums-next, sums-le}
 use Rattle.locate.proofs.lengths.length_before.Statement.{statement}

@@ -11,7 +11,7 @@ use Rattle.transcript.specs.declared.TranscriptModel.{TranscriptModel}
 use Rattle.transcript.specs.Limits.{top, maxExons}
 use Rattle.transcript.specs.Transcript.{cdsStart, cdsEnd}
 use Rattle.transcript.specs.Orient.{interval, orient}
-use Rattle.locate.specs.Exonic.{Countable}
+use Rattle.locate.specs.code.Exonic.{Countable}
 use Rattle.locate.proofs.LentTranscript.{known, ready}
 use Rattle.locate.proofs.PlaceFacts.{codeCounts, pad-fits, index-low, in-reach, end-high, read-low, countable-code, exonic-code}
 use borrow.Author.Needs.{needs}

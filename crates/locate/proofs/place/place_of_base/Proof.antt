@@ -7,8 +7,8 @@ use native.Mathlib.Omega.{arith}
 use denote.Ref.{now}
 use Rattle.transcript.specs.declared.TranscriptModel.{TranscriptModel}
 use Rattle.locate.specs.declared.ExonOrIntron.{ExonOrIntron}
-use Rattle.transcript.specs.Lent.{lentExons}
-use Rattle.locate.specs.Search.{FoundAt}
+use Rattle.transcript.specs.code.Lent.{lentExons}
+use Rattle.locate.specs.code.Search.{FoundAt}
 use Rattle.locate.proofs.Searching.{count}
 use Rattle.locate.proofs.LentTranscript.{known, ready}
 use Rattle.locate.proofs.PlaceCases.{is-up, is-down, from-first, is-exon, is-intron, is-outside, holds-exon}

@@ -9,8 +9,8 @@ use Rattle.common.proofs.TestParts.{true-false}
 use Rattle.transcript.specs.Bases.{firstStart}
 use Rattle.locate.specs.declared.ExonOrIntron.{ExonOrIntron}
 use Rattle.locate.specs.Find.{Found, outside, findExonOrIntron}
-use Rattle.transcript.specs.Lent.{lentExons}
-use Rattle.locate.specs.Search.{FoundAt}
+use Rattle.transcript.specs.code.Lent.{lentExons}
+use Rattle.locate.specs.code.Search.{FoundAt}
 use Rattle.transcript.proofs.Ascends.{inside-first}
 use Rattle.locate.proofs.Coding.{isExon, found-exon}
 use Rattle.locate.proofs.Searching.{ascends, count, end-at, end-top, high}

@@ -6,7 +6,7 @@ use native.Mathlib.Omega.{arith}
 use denote.Ref.{now}
 use lib.ListN.{length, getD}
 use borrow.Author.Tests.{not-true, not-false}
-use Rattle.transcript.specs.Lent.{lentExons}
+use Rattle.transcript.specs.code.Lent.{lentExons}
 use Rattle.transcript.proofs.Listed.{nowhere}
 use Rattle.transcript.proofs.Orient.{inside-start, inside-end}
 use Rattle.locate.proofs.Searching.{ascends, count, start-at, end-at, end-low, end-top, high}

@@ -5,7 +5,7 @@ use Rattle.transcript.proofs.Listed.{edges-at}
 use Rattle.common.proofs.Stored.{stored-more}
 use Rattle.locate.specs.Index.{cumulative}
 use Rattle.common.specs.Stored.{stored}
-use Rattle.transcript.specs.Lent.{exonSize}
+use Rattle.transcript.specs.code.Lent.{exonSize}
 use Rattle.transcript.specs.Transcript.{exonsOf}
 use native.Mathlib.Numerals.{add-one}
 use lib.ListN.{length, getD, take, length-set}

@@ -11,7 +11,7 @@ use Rattle.common.specs.Stored.{stored, filled}
 use Rattle.common.proofs.Stored.{stored-zeros}
 use Rattle.transcript.specs.declared.TranscriptModel.{TranscriptModel}
 use Rattle.transcript.specs.Transcript.{exonsOf}
-use Rattle.transcript.specs.Lent.{exonSize}
+use Rattle.transcript.specs.code.Lent.{exonSize}
 use Rattle.transcript.proofs.LentFacts.{pad-low}
 use Rattle.locate.specs.Index.{cumulative}
 use Rattle.locate.proofs.LentTranscript.{ad}

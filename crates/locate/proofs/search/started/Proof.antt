@@ -5,7 +5,7 @@ use native.Mathlib.Omega.{arith}
 use borrow.Author.Needs.{needs}
 use denote.Ref.{now}
 use lib.ListN.{length}
-use Rattle.transcript.specs.Lent.{lentExons}
+use Rattle.transcript.specs.code.Lent.{lentExons}
 use Rattle.locate.proofs.Searching.{Bracket, up, down, ascends, count, start-at, end-low}
 use Rattle.locate.proofs.search.started.Statement.{statement}
 use Rattle.locate.proofs.search.started.Tie as tie

@@ -10,8 +10,8 @@ use lib.ListN.{length, getD, length-map}
 use Rattle.transcript.specs.declared.Strand.{Strand}
 use Rattle.transcript.specs.Orient.{orientBase}
 use Rattle.transcript.specs.Bases.{insideAny, basesIn}
-use Rattle.transcript.specs.Lent.{lentExons}
-use Rattle.locate.specs.Sums.{firstSum}
+use Rattle.transcript.specs.code.Lent.{lentExons}
+use Rattle.locate.specs.code.Sums.{firstSum}
 use Rattle.common.proofs.Filling.{front, front-step, front-done, map-at}
 use Rattle.locate.proofs.CodedBases.{base-low, base-inside, ready-coded}
 use Rattle.locate.proofs.selenocysteine.selenocysteine_codons.Statement.{statement}

@@ -55,7 +55,7 @@ use Rattle.consequence.proofs.Call.Laws as Q′
 use Rattle.consequence.proofs.Called as N
 use Rattle.consequence.proofs.Called.Laws as N′
 use Rattle.records.specs.Records.{lentRecords}
-use Rattle.records.specs.Table.{Tabled}
+use Rattle.records.specs.code.Table.{Tabled}
 use Rattle.records.specs.Windows.{windowOf}
 use Rattle.records.specs.declared.Window.{Window}
 use Rattle.records.specs.declared.ExonTable.{ExonTable}

@@ -50,7 +50,7 @@ use Rattle.transcript.proofs.Exon as X
 use Rattle.locate.proofs.Located as N
 use Rattle.locate.proofs.Located.Laws as N′
 use Rattle.records.specs.Records.{lentRecords}
-use Rattle.records.specs.Table.{Tabled}
+use Rattle.records.specs.code.Table.{Tabled}
 use Rattle.records.specs.declared.ExonTable.{ExonTable}
 use Rattle.records.proofs.ExonTable as B
 use Rattle.records.proofs.ExonTable.Laws as B′

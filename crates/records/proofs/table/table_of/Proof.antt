@@ -49,7 +49,7 @@ use Rattle.common.proofs.Filling.{front}
 use Rattle.transcript.specs.declared.Exon.{Exon}
 use Rattle.transcript.proofs.Exon as X
 use Rattle.transcript.proofs.Exon.Laws as X′
-use Rattle.records.specs.Table.{startsOf, endsOf, Tabled}
+use Rattle.records.specs.code.Table.{startsOf, endsOf, Tabled}
 use Rattle.records.specs.declared.ExonTable.{ExonTable}
 use Rattle.records.proofs.Arrays.{as-row, as-array, zeros, opens-at, stores-at}
 use Rattle.records.proofs.Tables.{copied-length, copied-step, all-copied, none-copied}

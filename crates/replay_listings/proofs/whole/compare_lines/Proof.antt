@@ -6,7 +6,7 @@ use native.Mathlib.Omega.{arith}
 use lib.ListN.{length}
 use lib.Seq.{length-take-le}
 use borrow.Author.Needs.{needs}
-use Rattle.listing.specs.Steps.{left, Advances}
+use Rattle.listing.specs.code.Steps.{left, Advances}
 use Rattle.replay_listings.proofs.whole.compare_lines.Statement.{statement}
 use Rattle.replay_listings.proofs.whole.compare_lines.Tie as tie
 

@@ -6,7 +6,7 @@ use mathlib.Core.Bool.{true, false}
 use mathlib.Core.List.{map}
 use Prim.Native.Nat.{ℕ, _-_}
 use denote.Ref.{now}
-use Rattle.transcript.specs.Lent.{listedCuts}
+use Rattle.transcript.specs.code.Lent.{listedCuts}
 use Rattle.transcript.proofs.CdsFault.{lacks-first, lacks-last, lacks-cuts, lacks-none}
 use Rattle.transcript.specs.Transcript.{exonsOf}
 use Rattle.transcript.specs.Orient.{orient, orientExon}

@@ -8,7 +8,7 @@ use denote.Ref.{now}
 use lib.ListN.{length, getD, drop}
 use Rattle.common.specs.Lists.{any}
 use Rattle.common.proofs.Lists.{any-stop, any-go, any-end}
-use Rattle.transcript.specs.Lent.{phaseOver}
+use Rattle.transcript.specs.code.Lent.{phaseOver}
 use Rattle.transcript.proofs.order.bad_phases.Statement.{statement}
 use Rattle.transcript.proofs.order.bad_phases.Tie as tie
 

@@ -9,7 +9,7 @@ use lib.ListN.{length, drop}
 use Rattle.common.specs.Lists.{any}
 use Rattle.common.proofs.Lists.{any-stop, any-go, any-end}
 use Rattle.transcript.specs.Transcript.{exonsOf}
-use Rattle.transcript.specs.Lent.{holdsNone}
+use Rattle.transcript.specs.code.Lent.{holdsNone}
 use Rattle.transcript.proofs.segments.bad_selenocysteine.Statement.{statement}
 use Rattle.transcript.proofs.segments.bad_selenocysteine.Tie as tie
 

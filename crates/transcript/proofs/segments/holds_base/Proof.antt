@@ -7,7 +7,7 @@ use denote.Ref.{now}
 use lib.ListN.{length, drop}
 use Rattle.common.specs.Lists.{any}
 use Rattle.transcript.specs.Transcript.{exonsOf}
-use Rattle.transcript.specs.Lent.{holds}
+use Rattle.transcript.specs.code.Lent.{holds}
 use Rattle.transcript.proofs.Listed.{exons-stop, exons-go, exons-end}
 use Rattle.transcript.proofs.segments.holds_base.Statement.{statement}
 use Rattle.transcript.proofs.segments.holds_base.Tie as tie

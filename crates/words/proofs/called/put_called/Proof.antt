@@ -4,7 +4,7 @@ use mathlib.Core.Path.{sym, _∙_, ap}
 use lib.Seq.{sets}
 use denote.Ref.{now}
 use Rattle.consequence.specs.declared.Called.{Called}
-use Rattle.words.specs.CallWords.{calledWords}
+use Rattle.consequence.specs.Numbers.{calledWords}
 use borrow.Author.Needs.{needs}
 use Rattle.words.proofs.called.put_called.Statement.{statement}
 use Rattle.words.proofs.called.put_called.Tie as tie

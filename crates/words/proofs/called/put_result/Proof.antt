@@ -6,8 +6,8 @@ use mathlib.Core.List.{List, _∷_}
 use lib.IntN.{ℤ, pos}
 use lib.Seq.{sets}
 use denote.Ref.{now}
-use Rattle.words.specs.Words.{placeWords}
-use Rattle.words.specs.CallWords.{columnWords}
+use Rattle.locate.specs.Numbers.{placeWords}
+use Rattle.consequence.specs.Numbers.{columnWords}
 use Rattle.words.proofs.WordLengths.{place-length}
 use Rattle.words.proofs.Putting.{put-behind}
 use borrow.Author.Needs.{needs}

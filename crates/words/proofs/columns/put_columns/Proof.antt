@@ -5,7 +5,7 @@ use mathlib.Core.List.{[], _∷_, _++_}
 use lib.IntN.{pos}
 use denote.Ref.{now}
 use Rattle.consequence.specs.Answer.{cdnaCount}
-use Rattle.words.specs.CallWords.{numberOf, totalOf, countOf, referenceWord, alteredWord, changedPlace, lettersWord}
+use Rattle.consequence.specs.Numbers.{numberOf, totalOf, countOf, referenceWord, alteredWord, changedPlace, lettersWord}
 use Rattle.words.proofs.Putting.{put-on}
 use borrow.Author.Needs.{needs}
 use Rattle.words.proofs.columns.put_columns.Statement.{statement}

@@ -4,8 +4,8 @@ use mathlib.Core.Path.{sym, _∙_}
 use mathlib.Core.List.{[], _∷_, _++_}
 use lib.IntN.{pos}
 use denote.Ref.{now}
-use Rattle.words.specs.Words.{flag}
-use Rattle.words.specs.IntervalWords.{flankKind, flankLength, endpointFlag, endpointIndex}
+use Rattle.common.specs.Flag.{flag}
+use Rattle.footprint.specs.Numbers.{flankKind, flankLength, endpointFlag, endpointIndex}
 use Rattle.words.proofs.Putting.{put-on, whole}
 use borrow.Author.Needs.{needs}
 use Rattle.words.proofs.flanks.put_interval.Statement.{statement}

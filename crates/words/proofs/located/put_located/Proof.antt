@@ -5,7 +5,7 @@ use mathlib.Core.List.{List, _∷_}
 use lib.IntN.{ℤ, pos}
 use lib.Seq.{sets}
 use Rattle.locate.specs.declared.Located.{Located}
-use Rattle.words.specs.Words.{locatedWords}
+use Rattle.locate.specs.Numbers.{locatedWords}
 use borrow.Author.Needs.{needs}
 use Rattle.words.proofs.located.put_located.Statement.{statement}
 use Rattle.words.proofs.located.put_located.Tie as tie

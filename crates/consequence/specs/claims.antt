@@ -1,0 +1,3 @@
+pub mod CallPlaces
+pub mod CodingPositions
+pub mod Numbers

@@ -1,0 +1,3 @@
+pub mod AtPlace
+pub mod Prepared
+pub mod Segments

@@ -1,0 +1,39 @@
+-- The answer at a place before the splice spill, as the code goes: its refusal, or the columns of its region.
+use Prim.Native.Nat.{ℕ}
+use mathlib.Core.Bool.{cond, Bool}
+use mathlib.Core.List.{List}
+use Rattle.locate.specs.declared.VariantLocation.{VariantLocation}
+use Rattle.transcript.specs.Orient.{Oriented}
+use Rattle.consequence.specs.declared.FetchedCodon.{FetchedCodon}
+use Rattle.consequence.specs.declared.columns.CodonColumns.{CodonColumns}
+use Rattle.consequence.specs.declared.region.Region.{Region}
+use lib.Dec.{eqb}
+use Rattle.locate.specs.PlaceKind.{isDistal}
+use Rattle.consequence.specs.declared.Called.{Called}
+use Rattle.consequence.specs.Answer.{noCodon, codonColumns, codonResult, placeResult, Columns}
+use Rattle.consequence.specs.Call.{lacksCodon, closingRefusal}
+
+-- the same as the code hands it on
+abbrev pub columnsOf : CodonColumns → Columns
+columnsOf c = record { position = c .position; number = c .number; codons = c .codons; letters = c .letters; terms = c .terms .0 }
+
+-- a coding base in exon i, with its codon
+abbrev pub codingCalled : List ℕ → Oriented → ℕ → ℕ → VariantLocation → ℕ → ℕ → ℕ → ℕ → Bool → FetchedCodon → Called
+codingCalled code t p alt place i o n k m (FetchedCodon.Bases c) =
+    Called.Answered (codonResult t p place (Region.Coding i o n k m) (codonColumns code t o n k alt (FetchedCodon.Bases c)))
+codingCalled code t p alt place i o n k m FetchedCodon.OutsideWindow = Called.Refused 21
+
+-- from the region of the place
+abbrev pub regionCalled : List ℕ → Oriented → ℕ → ℕ → (ℕ → FetchedCodon) → VariantLocation → Region → Called
+regionCalled code t p alt codon place Region.Distal = Called.Refused 19
+regionCalled code t p alt codon place (Region.Flank c) = Called.Answered (codonResult t p place (Region.Flank c) noCodon)
+regionCalled code t p alt codon place (Region.Intron i c m) = Called.Answered (codonResult t p place (Region.Intron i c m) noCodon)
+regionCalled code t p alt codon place (Region.Exon i c m) = Called.Answered (codonResult t p place (Region.Exon i c m) noCodon)
+regionCalled code t p alt codon place (Region.Coding i o n k m) = codingCalled code t p alt place i o n k m (codon o)
+
+-- from the place
+unfoldable pub placeCalled : List ℕ → Oriented → ℕ → ℕ → (ℕ → FetchedCodon) → VariantLocation → Called
+placeCalled code t p alt codon place =
+    cond (eqb (closingRefusal (isDistal place) (lacksCodon codon place)) 0)
+    (Called.Answered (placeResult code t p alt codon place))
+    (Called.Refused (closingRefusal (isDistal place) (lacksCodon codon place)))

@@ -1,0 +1,2 @@
+pub mod CodingBases
+pub mod Numbers

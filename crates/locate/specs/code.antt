@@ -1,0 +1,4 @@
+pub mod Coded
+pub mod Exonic
+pub mod Search
+pub mod Sums
