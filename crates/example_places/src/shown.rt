@@ -1,108 +1,83 @@
-// A place as text.
-use io::print_decimal;
-use libc::STDOUT_FILENO;
+// A place and a flank as text.
+use crate::text::number;
+use crate::text::print;
+use crate::text::refused;
+use crate::text::signed;
+use footprint::Flank;
+use footprint::Flanked;
 use locate::VariantLocation;
 
-pub fn print(text: &[u8]) {
-    io::write_all(STDOUT_FILENO, text);
+// A name with a count.
+fn counted(name: &[u8], n: u64) {
+    print(name);
+    number(n);
 }
 
-pub fn number(n: u64) {
-    print(b" ");
-    print_decimal(STDOUT_FILENO, n);
+// A name with a distance or an offset.
+fn measured(name: &[u8], n: i64) {
+    print(name);
+    signed(n);
 }
 
-// A distance or UTR offset of the examples with its sign; any other is `?`.
-fn signed(n: i64) {
-    if n == -17 {
-        print(b" -17");
-    } else if n == -1 {
-        print(b" -1");
-    } else if n == 1 {
-        print(b" +1");
-    } else if n == 3 {
-        print(b" +3");
-    } else if n == 7 {
-        print(b" +7");
-    } else if n == 13 {
-        print(b" +13");
-    } else {
-        print(b" ?");
-    }
-}
-
-fn mark(is_splice_region: bool) {
+// A coding base: its offset, its codon, its place in the codon, and its mark.
+fn coding_base(offset: u32, codon: u32, position: u8, is_splice_region: bool) {
+    counted(b"CdsExon", offset as u64);
+    number(codon as u64);
+    number(position as u64);
     if is_splice_region {
         print(b" mark");
     }
 }
 
-// The place's name with what document 01 says of it: a distance, or offset, codon and place in the codon.
+// The place's name with what document 01 says of it.
 pub fn show_place(place: VariantLocation) {
     match place {
-        VariantLocation::Upstream { distance } => {
-            print(b"Upstream");
-            number(distance);
-        }
-        VariantLocation::Downstream { distance } => {
-            print(b"Downstream");
-            number(distance);
-        }
+        VariantLocation::Upstream { distance } => counted(b"Upstream", distance),
+        VariantLocation::Downstream { distance } => counted(b"Downstream", distance),
         VariantLocation::Distal => print(b"Distal"),
         VariantLocation::FivePrimeUtr {
             offset_from_cds_start,
             ..
-        } => {
-            print(b"FivePrimeUtr");
-            signed(offset_from_cds_start);
-        }
+        } => measured(b"FivePrimeUtr", offset_from_cds_start),
         VariantLocation::CdsExon {
             cds_offset,
             codon_number,
             codon_position,
             is_splice_region,
             ..
-        } => {
-            print(b"CdsExon");
-            number(cds_offset as u64);
-            number(codon_number as u64);
-            number(codon_position as u64);
-            mark(is_splice_region);
-        }
+        } => coding_base(cds_offset, codon_number, codon_position, is_splice_region),
         VariantLocation::ThreePrimeUtr {
             offset_from_cds_end,
             ..
-        } => {
-            print(b"ThreePrimeUtr");
-            signed(offset_from_cds_end);
-        }
-        VariantLocation::SpliceDonor { offset, .. } => {
-            print(b"SpliceDonor");
-            number(offset as u64);
-        }
-        VariantLocation::SpliceAcceptor { offset, .. } => {
-            print(b"SpliceAcceptor");
-            number(offset as u64);
-        }
-        VariantLocation::SpliceRegion { distance, .. } => {
-            print(b"SpliceRegion");
-            signed(distance);
-        }
+        } => measured(b"ThreePrimeUtr", offset_from_cds_end),
+        VariantLocation::SpliceDonor { offset, .. } => counted(b"SpliceDonor", offset as u64),
+        VariantLocation::SpliceAcceptor { offset, .. } => counted(b"SpliceAcceptor", offset as u64),
+        VariantLocation::SpliceRegion { distance, .. } => measured(b"SpliceRegion", distance),
         VariantLocation::Intron {
             distance_to_nearest_exon,
             ..
-        } => {
-            print(b"Intron");
-            signed(distance_to_nearest_exon);
-        }
+        } => measured(b"Intron", distance_to_nearest_exon),
         VariantLocation::FrameshiftIntron {
             distance_to_nearest_exon,
             ..
-        } => {
-            print(b"FrameshiftIntron");
-            signed(distance_to_nearest_exon);
-        }
+        } => measured(b"FrameshiftIntron", distance_to_nearest_exon),
         VariantLocation::NonCodingExon { .. } => print(b"NonCodingExon"),
         VariantLocation::NonCodingIntron { .. } => print(b"NonCodingIntron"),
+    }
+}
+
+pub fn show_flanked(flanked: Flanked) {
+    match flanked {
+        Flanked::Beside(flank) => show_flank(flank),
+        Flanked::Refused(n) => refused(n),
+    }
+}
+
+fn show_flank(flank: Flank) {
+    match flank {
+        Flank::Overlaps => print(b"Overlaps"),
+        Flank::Upstream(d) => counted(b"Upstream", d),
+        Flank::Downstream(d) => counted(b"Downstream", d),
+        Flank::Far => print(b"Far"),
     }
 }
