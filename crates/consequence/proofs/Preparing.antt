@@ -19,6 +19,7 @@ use Rattle.transcript.proofs.Listed.{nowhere}
 use Rattle.transcript.proofs.Orient.{inside-start, inside-end}
 use Rattle.footprint.specs.declared.Ranges.{Ranges}
 use Rattle.locate.specs.declared.VariantLocation.{VariantLocation}
+use Rattle.locate.specs.declared.CdsOffset.{CdsOffset}
 use Rattle.locate.specs.declared.IndexScalars.{IndexScalars}
 use Rattle.locate.specs.Index.{selenocysteineCodons}
 use Rattle.locate.specs.Place.{cdsOffset, cdnaPosition, locate}
@@ -119,20 +120,20 @@ module _ (m : TranscriptModel) (ss es ps is gs ge bs : List ℕ) (x : IndexScala
     called code alt codon = ap (regionCalled code o p alt codon place) coding-same ∙ by-region code o p alt codon place
 
   -- a coding base
-  module _ (r : Ranges) (p : ℕ) (place : VariantLocation) (q : place ≡ locate r o p) (i f n k : ℕ) (mark : Bool) (e : Region.Coding i f n k mark ≡ regionOf (ltb 0 (length gs)) place) where
-    is-coding : (isCdsExon place ≡ true) × (placeOffset place ≡ f)
+  module _ (r : Ranges) (p : ℕ) (place : VariantLocation) (q : place ≡ locate r o p) (i : ℕ) (f : CdsOffset) (n k : ℕ) (mark : Bool) (e : Region.Coding i f n k mark ≡ regionOf (ltb 0 (length gs)) place) where
+    is-coding : (isCdsExon place ≡ true) × (placeOffset place ≡ f .0)
     is-coding = coding-region (ltb 0 (length gs)) place i f n k mark (sym e)
 
     in-segment : insideAny p (o .segments) ≡ true
     in-segment = sym (coding-place t (on known) r p) ∙ ap isCdsExon (sym q) ∙ is-coding .0
 
-    offset-is : f ≡ cdsOffset o p
+    offset-is : f .0 ≡ cdsOffset o p
     offset-is = sym (is-coding .1) ∙ ap placeOffset q ∙ coding-offset r o p (ap isCdsExon (sym q) ∙ is-coding .0)
 
     position : CdnaOf o p
     position = index-cdna t (on known) p in-segment
 
-    pub coding-cdna : cdnaPosition o p ≡ x .«utr5_exonic_len» + (f - x .«cds_start_pad») + 1
+    pub coding-cdna : cdnaPosition o p ≡ x .«utr5_exonic_len» + (f .0 - x .«cds_start_pad») + 1
     coding-cdna = sym (rw (h .scalars-are, offset-is) (position .is))
 
     segments-ready : Segments (m .strand) gs ge ys (x .«cds_start_pad»)
@@ -142,13 +143,13 @@ module _ (m : TranscriptModel) (ss es ps is gs ge bs : List ℕ) (x : IndexScala
       pad-is = ap (λ (y : IndexScalars). y .«cds_start_pad») (h .scalars-are) ∙ sym (h .segments-are .1);
     }
 
-    offset-low : f < x .«total_cds_length»
+    offset-low : f .0 < x .«total_cds_length»
     offset-low = let b = before-lt (o .segments) p in-segment in let q = offset-is in rw (h .scalars-are) (omega arith)
 
     pub coding-requires : Segments (m .strand) gs ge ys (x .«cds_start_pad»)
-        × (((x .«segment_count» ≡ length gs) × (x .«total_cds_length» ≡ getD ys (length gs) 0) × (f < x .«total_cds_length»))
+        × (((x .«segment_count» ≡ length gs) × (x .«total_cds_length» ≡ getD ys (length gs) 0) × (f .0 < x .«total_cds_length»))
         × (((x .«selenocysteine_count» ≤ 64) × (x .«selenocysteine_count» ≤ length cs))
-        × ((i < 65535) × (f ≤ 2 + top) × (x .«cds_start_pad» ≤ f) × (x .«utr5_exonic_len» + (f - x .«cds_start_pad») ≤ top))))
+        × ((i < 65535) × (f .0 ≤ 2 + top) × (x .«cds_start_pad» ≤ f .0) × (x .«utr5_exonic_len» + (f .0 - x .«cds_start_pad») ≤ top))))
     coding-requires =
         let s = h .scalars-are in
         let c : x .«selenocysteine_count» ≡ length (o .selenocysteine) = ap (λ (y : IndexScalars). y .«selenocysteine_count») s in
@@ -158,7 +159,7 @@ module _ (m : TranscriptModel) (ss es ps is gs ge bs : List ℕ) (x : IndexScala
         let w = on ad .few-bases in
         let u = index-fits i (at-region r p place q (Region.Coding i f n k mark) e) .0 in
         let z : CdnaOf o p = position in
-        let v : (x .«cds_start_pad» ≤ f) × (x .«utr5_exonic_len» + (f - x .«cds_start_pad») ≤ top) = rw (s, offset-is) (z .padded, z .fits) in
+        let v : (x .«cds_start_pad» ≤ f .0) × (x .«utr5_exonic_len» + (f .0 - x .«cds_start_pad») ≤ top) = rw (s, offset-is) (z .padded, z .fits) in
         let y : x .«cds_start_pad» ≤ 2 = rw s (on pad-2) in (
           segments-ready,
           (

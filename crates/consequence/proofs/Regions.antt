@@ -15,6 +15,7 @@ use Rattle.transcript.proofs.Listed.{nowhere}
 use Rattle.footprint.specs.declared.Ranges.{Ranges}
 use Rattle.footprint.specs.Ranges.{spliceCanonicalMax, frameshiftIntronMaxGap}
 use Rattle.locate.specs.declared.VariantLocation.{VariantLocation}
+use Rattle.locate.specs.declared.CdsOffset.{CdsOffset}
 use Rattle.locate.specs.declared.VariantLocation.the-variants.{Upstream, Downstream, Distal, FivePrimeUtr, CdsExon, ThreePrimeUtr, SpliceDonor, SpliceAcceptor, SpliceRegion, Intron, FrameshiftIntron, NonCodingExon, NonCodingIntron}
 use Rattle.locate.specs.Find.{Found, inExon, inIntron, outside, findAfter, findExonOrIntron}
 use Rattle.locate.specs.Intronic.{signedDistance, deepIntron, classifyDistances}
@@ -30,9 +31,9 @@ use Rattle.consequence.specs.code.AtPlace.{codingCalled, regionCalled, p
 
 -- the answer from the region is the answer at the place
 module _ (code : List ℕ) (t : Oriented) (p alt : ℕ) (codon : ℕ → FetchedCodon) where
-  coded : (place : VariantLocation) (i o n k : ℕ) (m : Bool) (c : FetchedCodon)
+  coded : (place : VariantLocation) (i : ℕ) (o : CdsOffset) (n k : ℕ) (m : Bool) (c : FetchedCodon)
       → codingCalled code t p alt place i o n k m c
-      ≡ cond (eqb (closingRefusal false (isOutside c)) 0) (Called.Answered (codonResult t p place (Region.Coding i o n k m) (codonColumns code t o n k alt c))) (Called.Refused (closingRefusal false (isOutside c)))
+      ≡ cond (eqb (closingRefusal false (isOutside c)) 0) (Called.Answered (codonResult t p place (Region.Coding i o n k m) (codonColumns code t (o .0) n k alt c))) (Called.Refused (closingRefusal false (isOutside c)))
   coded place i o n k m (FetchedCodon.Bases c) = refl
   coded place i o n k m FetchedCodon.OutsideWindow = refl
 
@@ -42,7 +43,7 @@ module _ (code : List ℕ) (t : Oriented) (p alt : ℕ) (codon : ℕ → Fetched
   by-region (Downstream d) = refl
   by-region Distal = refl
   by-region (FivePrimeUtr i d m) = refl
-  by-region (CdsExon i g o n k m) = coded (CdsExon i g o n k m) i o n k m (codon o)
+  by-region (CdsExon i g o n k m) = coded (CdsExon i g o n k m) i o n k m (codon (o .0))
   by-region (ThreePrimeUtr i d m) = refl
   by-region (SpliceDonor i d) = refl
   by-region (SpliceAcceptor i d) = refl
@@ -165,7 +166,7 @@ offsetOf Region.Distal = 0
 offsetOf (Region.Flank c) = 0
 offsetOf (Region.Intron i c m) = 0
 offsetOf (Region.Exon i c m) = 0
-offsetOf (Region.Coding i o n k m) = o
+offsetOf (Region.Coding i o n k m) = o .0
 
 coding-parts : (coding : Bool) (place : VariantLocation) → (isCoding (regionOf coding place) ≡ isCdsExon place) × (offsetOf (regionOf coding place) ≡ placeOffset place)
 coding-parts coding (Upstream d) = (refl, refl)
@@ -182,5 +183,5 @@ coding-parts coding (FrameshiftIntron i d) = (refl, refl)
 coding-parts coding (NonCodingExon i m) = (refl, refl)
 coding-parts coding (NonCodingIntron i d) = (refl, refl)
 
-pub coding-region : (coding : Bool) (place : VariantLocation) (i o n k : ℕ) (m : Bool) → regionOf coding place ≡ Region.Coding i o n k m → (isCdsExon place ≡ true) × (placeOffset place ≡ o)
+pub coding-region : (coding : Bool) (place : VariantLocation) (i : ℕ) (o : CdsOffset) (n k : ℕ) (m : Bool) → regionOf coding place ≡ Region.Coding i o n k m → (isCdsExon place ≡ true) × (placeOffset place ≡ o .0)
 coding-region coding place i o n k m e = let c = coding-parts coding place in (sym (c .0) ∙ ap isCoding e, sym (c .1) ∙ ap offsetOf e)

@@ -112,7 +112,7 @@ module _ (c d : Codon) (k : ℕ) where
   by-place code t p alt codon (Downstream e) h = absent h
   by-place code t p alt codon Distal h = absent h
   by-place code t p alt codon (FivePrimeUtr i e m) h = absent h
-  by-place code t p alt codon (CdsExon i g o n j m) h = (refl, by-codon code t o n j alt (codon o) h)
+  by-place code t p alt codon (CdsExon i g o n j m) h = (refl, by-codon code t (o .0) n j alt (codon (o .0)) h)
   by-place code t p alt codon (ThreePrimeUtr i e m) h = absent h
   by-place code t p alt codon (SpliceDonor i e) h = absent h
   by-place code t p alt codon (SpliceAcceptor i e) h = absent h

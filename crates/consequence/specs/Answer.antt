@@ -123,7 +123,7 @@ regionColumns code t alt codon Region.Distal = noCodon
 regionColumns code t alt codon (Region.Flank c) = noCodon
 regionColumns code t alt codon (Region.Intron i c m) = noCodon
 regionColumns code t alt codon (Region.Exon i c m) = noCodon
-regionColumns code t alt codon (Region.Coding i o n k m) = codonColumns code t o n k alt (codon o)
+regionColumns code t alt codon (Region.Coding i o n k m) = codonColumns code t (o .0) n k alt (codon (o .0))
 
 -- the answer in a region with these columns and terms. Distal is refused before (19)
 abbrev pub regionResult : Oriented → ℕ → VariantLocation → Region → Columns → ℕ → ConsequenceResult

@@ -46,7 +46,7 @@ pub(crate) fn annotate_cds_snv(
     bytes: &[u8],
     alt_base: u8,
     i: u16,
-    offset: u32,
+    offset: CdsOffset,
     number: u32,
     position: u8,
     mark: bool,
@@ -54,12 +54,12 @@ pub(crate) fn annotate_cds_snv(
     requires { ⌜ Segments strand (now starts) (now ends) (now sums) (scalars .«cds_start_pad») ⌝ }
     requires { ⌜ (scalars .«segment_count» ≡ length (now starts))
         × (scalars .«total_cds_length» ≡ getD (now sums) (length (now starts)) 0)
-        × (offset < scalars .«total_cds_length») ⌝ }
+        × (offset .0 < scalars .«total_cds_length») ⌝ }
     requires { ⌜ (scalars .«selenocysteine_count» ≤ 64) × (scalars .«selenocysteine_count» ≤ length (now codons)) ⌝ }
     requires { ⌜ (i < 65535)
-        × (offset ≤ 2 + top)
-        × (scalars .«cds_start_pad» ≤ offset)
-        × (scalars .«utr5_exonic_len» + (offset - scalars .«cds_start_pad») ≤ top) ⌝ }
+        × (offset .0 ≤ 2 + top)
+        × (scalars .«cds_start_pad» ≤ offset .0)
+        × (scalars .«utr5_exonic_len» + (offset .0 - scalars .«cds_start_pad») ≤ top) ⌝ }
     ensures { λ r.
         let base = codingBase strand (windowFrom first (now bytes.entry)) in
         ⌜ ((t : Oriented) (p : ℕ)
@@ -68,30 +68,26 @@ pub(crate) fn annotate_cds_snv(
         → t .startComplete ≡ «start_complete»
         → t .segments ≡ lentExons strand (now starts.entry) (now ends.entry)
         → now codons.entry ≡ filled 64 (selenocysteineCodons t)
-        → cdnaPosition t p ≡ scalars .«utr5_exonic_len» + (offset - scalars .«cds_start_pad») + 1
+        → cdnaPosition t p ≡ scalars .«utr5_exonic_len» + (offset .0 - scalars .«cds_start_pad») + 1
         → r ≡ codingCalled standardTable t p (codingByte strand «alt_base»)
-        place i offset number position mark (fetchCodon t base offset)) ⌝ }
+        place i offset number position mark (fetchCodon t base (offset .0))) ⌝ }
 {
-    let codon = fetch_ref_codon(scalars, strand, starts, ends, sums, first, bytes, offset);
+    let codon = fetch_ref_codon(scalars, strand, starts, ends, sums, first, bytes, offset.0);
     let FetchedCodon::Bases(c) = codon else {
         return Called::Refused(21);
     };
     let columns = read_codon(
         is_start_codon(scalars.cds_start_pad, start_complete, number),
         is_padded_codon(scalars.cds_start_pad, number),
-        is_incomplete_terminal_codon(scalars.total_cds_length, offset),
+        is_incomplete_terminal_codon(scalars.total_cds_length, offset.0),
         holds_selenocysteine(codons, scalars.selenocysteine_count, number),
-        CdsOffset(offset),
+        offset,
         number,
         c,
         position,
         coding_byte(strand, alt_base),
     );
-    let cdna = cdna_position(
-        scalars.utr5_exonic_len,
-        scalars.cds_start_pad,
-        CdsOffset(offset),
-    );
+    let cdna = cdna_position(scalars.utr5_exonic_len, scalars.cds_start_pad, offset);
     let terms = with_mark(columns.terms, mark);
     Called::Answered(exon_result(place, exons, i, cdna, columns, terms))
 }

@@ -1,4 +1,5 @@
 // What an answer takes from a place.
+use locate::CdsOffset;
 use locate::VariantLocation;
 use terms::Consequence;
 use terms::TermSet;
@@ -24,7 +25,7 @@ pub enum Region {
     },
     Coding {
         index: u16,
-        offset: u32,
+        offset: CdsOffset,
         number: u32,
         position: u8,
         mark: bool,

@@ -56,8 +56,9 @@ module _ (S L : Oriented) (a : Alike S L) (x : Added) (s : SpliceSpill) (p : ℕ
   result-carry code alt u v e Distal = flank-carry x s Distal _
   result-carry code alt u v e (FivePrimeUtr i d m) = exon-result (FivePrimeUtr i d m) i m noCodon _ keeps-five
   result-carry code alt u v e (CdsExon i g o n k m) =
-      let c = codonColumns code S o n k alt (v o) in
-      rw (e o, same-columns S L a code o n k alt (v o)) (exon-result (CdsExon i g o n k m) i m c (c .terms) (keeps-columns code S o n k alt (v o)))
+      let f = o .0 in
+      let c = codonColumns code S f n k alt (v f) in
+      rw (e f, same-columns S L a code f n k alt (v f)) (exon-result (CdsExon i g o n k m) i m c (c .terms) (keeps-columns code S f n k alt (v f)))
   result-carry code alt u v e (ThreePrimeUtr i d m) = exon-result (ThreePrimeUtr i d m) i m noCodon _ keeps-three
   result-carry code alt u v e (SpliceDonor i d) = intron-result (SpliceDonor i d) i _
   result-carry code alt u v e (SpliceAcceptor i d) = intron-result (SpliceAcceptor i d) i _

@@ -43,7 +43,7 @@ cdnaOfOffset t offset = basesIn (t .exons) 0 (t .cds .start) + (offset - t .pad)
 
 -- codon number from 1 and place in the codon from 0
 abbrev pub cdsExon : ℕ → ℕ → ℕ → Bool → VariantLocation
-cdsExon i g offset mark = CdsExon i g offset (offset / 3 + 1) (offset % 3) mark
+cdsExon i g offset mark = CdsExon i g (record { 0 = offset }) (offset / 3 + 1) (offset % 3) mark
 
 -- a base of exon i: of the 5'UTR, the 3'UTR or the CDS. UTR offsets count exonic bases from the CDS edge
 unfoldable pub exonic : Oriented → ℕ → ℕ → Bool → VariantLocation

@@ -1,4 +1,5 @@
 // The place of an exon base, from counts of exonic bases.
+use super::CdsOffset;
 use super::VariantLocation;
 ghost use mathlib.Core.Path.{_≡_};
 ghost use Prim.Native.Nat.{_+_, _-_, _≤_, _<_};
@@ -77,7 +78,7 @@ pub(crate) fn exonic_place(
     VariantLocation::CdsExon {
         exon_index: i,
         cds_segment_index: segment,
-        cds_offset: offset,
+        cds_offset: CdsOffset(offset),
         codon_number: offset / 3 + 1,
         codon_position: (offset % 3) as u8,
         is_splice_region: mark,

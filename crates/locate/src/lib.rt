@@ -45,7 +45,7 @@ pub enum VariantLocation {
     CdsExon {
         exon_index: u16,
         cds_segment_index: u16,
-        cds_offset: u32,
+        cds_offset: CdsOffset,
         codon_number: u32,
         codon_position: u8,
         is_splice_region: bool,

@@ -74,7 +74,7 @@ fn row_of(place: VariantLocation) -> PlaceRow {
             kind: 4,
             mark: is_splice_region,
             index: exon_index as u64,
-            distance: bounded(cds_offset as u64),
+            distance: bounded(cds_offset.0 as u64),
             segment: cds_segment_index as u64,
             position: codon_position as u64,
             number: codon_number as u64,

@@ -82,7 +82,7 @@ pub(crate) fn row_of(place: VariantLocation) -> Row
             index: exon_index as u32,
             segment: cds_segment_index as u32,
             position: codon_position as u32,
-            distance: signed(cds_offset),
+            distance: signed(cds_offset.0),
             number: codon_number,
         },
         VariantLocation::ThreePrimeUtr {

@@ -3,6 +3,7 @@ use Prim.Native.Nat.{ℕ}
 use mathlib.Core.Bool.{cond, Bool}
 use mathlib.Core.List.{List}
 use Rattle.locate.specs.declared.VariantLocation.{VariantLocation}
+use Rattle.locate.specs.declared.CdsOffset.{CdsOffset}
 use Rattle.transcript.specs.Orient.{Oriented}
 use Rattle.consequence.specs.declared.FetchedCodon.{FetchedCodon}
 use Rattle.consequence.specs.declared.columns.CodonColumns.{CodonColumns}
@@ -18,9 +19,9 @@ abbrev pub columnsOf : CodonColumns → Columns
 columnsOf c = record { position = c .position; number = c .number; codons = c .codons; letters = c .letters; terms = c .terms .0 }
 
 -- a coding base in exon i, with its codon
-abbrev pub codingCalled : List ℕ → Oriented → ℕ → ℕ → VariantLocation → ℕ → ℕ → ℕ → ℕ → Bool → FetchedCodon → Called
+abbrev pub codingCalled : List ℕ → Oriented → ℕ → ℕ → VariantLocation → ℕ → CdsOffset → ℕ → ℕ → Bool → FetchedCodon → Called
 codingCalled code t p alt place i o n k m (FetchedCodon.Bases c) =
-    Called.Answered (codonResult t p place (Region.Coding i o n k m) (codonColumns code t o n k alt (FetchedCodon.Bases c)))
+    Called.Answered (codonResult t p place (Region.Coding i o n k m) (codonColumns code t (o .0) n k alt (FetchedCodon.Bases c)))
 codingCalled code t p alt place i o n k m FetchedCodon.OutsideWindow = Called.Refused 21
 
 -- from the region of the place
@@ -29,7 +30,7 @@ regionCalled code t p alt codon place Region.Distal = Called.Refused 19
 regionCalled code t p alt codon place (Region.Flank c) = Called.Answered (codonResult t p place (Region.Flank c) noCodon)
 regionCalled code t p alt codon place (Region.Intron i c m) = Called.Answered (codonResult t p place (Region.Intron i c m) noCodon)
 regionCalled code t p alt codon place (Region.Exon i c m) = Called.Answered (codonResult t p place (Region.Exon i c m) noCodon)
-regionCalled code t p alt codon place (Region.Coding i o n k m) = codingCalled code t p alt place i o n k m (codon o)
+regionCalled code t p alt codon place (Region.Coding i o n k m) = codingCalled code t p alt place i o n k m (codon (o .0))
 
 -- from the place
 unfoldable pub placeCalled : List ℕ → Oriented → ℕ → ℕ → (ℕ → FetchedCodon) → VariantLocation → Called

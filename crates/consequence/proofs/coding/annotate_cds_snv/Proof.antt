@@ -78,9 +78,9 @@ returns-2 c =
     λ t p he hs hc hg hu hd.
     let start = c .before .before .before .before .before .before .before .before .is-start-codon .ensures t (pad-of b t hs) hc in
     let padded = c .before .before .before .before .before .before .before .is-padded-codon .ensures t (pad-of b t hs) in
-    let unfinished = c .before .before .before .before .before .before .is-incomplete-terminal-codon .ensures ∙ ap (λ (n : ℕ). incompleteAt n (b .args .offset)) (sym (total-of b t hs)) in
+    let unfinished = c .before .before .before .before .before .before .is-incomplete-terminal-codon .ensures ∙ ap (λ (n : ℕ). incompleteAt n (b .args .offset .0)) (sym (total-of b t hs)) in
     let held = c .before .before .before .before .before .holds-selenocysteine .ensures t (ap (λ (x : IndexScalars). x .«selenocysteine_count») hs) hu in
-    let columns = c .before .before .before .read-codon .ensures t start padded unfinished held ∙ ap (λ (n : ℕ). readCodon standardTable t (b .args .offset) (b .args .number) bases (buildAltCodon bases (b .args .position) n) (b .args .position)) (c .before .before .before .before .coding-byte .ensures) in
+    let columns = c .before .before .before .read-codon .ensures t start padded unfinished held ∙ ap (λ (n : ℕ). readCodon standardTable t (b .args .offset .0) (b .args .number) bases (buildAltCodon bases (b .args .position) n) (b .args .position)) (c .before .before .before .before .coding-byte .ensures) in
     ap Called.Answered
     (c .exon-result .ensures t p he (hd ∙ sym (c .before .before .cdna-position .ensures))
     ∙ ap (λ (n : ℕ). exonResult t p (b .args .place) (b .args .i) (columnsOf (c .before .before .before .read-codon .result)) n) (c .before .with-mark .ensures)

@@ -66,11 +66,11 @@ add-offset c = search needs
 sub-segment : tie.Need-sub-segment
 sub-segment c = c .before .before .before .pre .from-first (not-false (c .before .before .before .args .coding) (c .before .before .if1 .left)) (c .before .if2 .left) (c .if3 .left)
 
-add-t24 : tie.Need-add-t24
-add-t24 c = search needs
+add-t25 : tie.Need-add-t25
+add-t25 c = search needs
 
-cast-t26 : tie.Need-cast-t26
-cast-t26 c = search needs
+cast-t27 : tie.Need-cast-t27
+cast-t27 c = search needs
 
 returns-4 : tie.Need-returns-4
 returns-4 c =
@@ -95,6 +95,6 @@ exonic-place-spec =
     sub-offset
     add-offset
     sub-segment
-    add-t24
-    cast-t26
+    add-t25
+    cast-t27
     returns-4)
