@@ -23,7 +23,7 @@ use Rattle.locate.specs.code.Sums.{firstSum, Sums}
 use Rattle.locate.proofs.PrefixSums.{cumulative-first, cumulative-next, sizes-at}
 use Rattle.locate.proofs.LentIndex.{sizes-turned}
 use Rattle.locate.proofs.Searching.{count, start-at}
-use Rattle.consequence.specs.Reading.{codingPosition}
+use Rattle.locate.specs.Place.{codingPosition}
 use Rattle.consequence.specs.code.Segments.{Segments, Held}
 
 -- base d of [s, e) on the minus strand

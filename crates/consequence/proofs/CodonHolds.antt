@@ -12,17 +12,17 @@ use Rattle.transcript.specs.Orient.{Oriented, orientBase, oriented}
 use Rattle.transcript.specs.Bases.{basesIn}
 use Rattle.transcript.proofs.Orient.{orient-twice}
 use Rattle.transcript.proofs.Admitted.{facts}
-use Rattle.locate.specs.Place.{cdsOffset, totalCdsLength}
+use Rattle.locate.specs.Place.{cdsOffset, totalCdsLength, codingPosition}
 use Rattle.locate.specs.PlaceKind.{isCdsExon, placeOffset}
 use Rattle.locate.proofs.Coding.{coding-place, coding-offset}
 use Rattle.locate.proofs.CodingExons.{segments-ascend}
 use Rattle.consequence.specs.declared.FetchedBase.{FetchedBase}
 use Rattle.consequence.specs.declared.FetchedCodon.{FetchedCodon}
 use Rattle.consequence.specs.Window.{Window, inWindow, byteAt, baseAt, codingFetched, codingBase}
-use Rattle.consequence.specs.Reading.{codingPosition, cdsBase, lengthAt, codonLength, codonOf, ifThere, fetchBases, fetchCodon}
-use Rattle.consequence.specs.claims.CodingPositions.{codonByte, CodonHoldsBase}
+use Rattle.consequence.specs.Reading.{cdsBase, lengthAt, codonLength, codonOf, ifThere, fetchBases, fetchCodon}
+use Rattle.consequence.specs.claims.Codons.{codonByte, CodonHoldsBase}
 use Rattle.consequence.proofs.Refusals.{opening-within}
-use Rattle.consequence.proofs.CodingPositions.{base-numbered}
+use Rattle.locate.proofs.CodingPositions.{base-numbered}
 use Rattle.consequence.proofs.CallPlaces.{answers, call-admitted, call-window, call-location}
 
 -- the place in the codon of a padded offset of the CDS is one that the codon has

@@ -9,7 +9,6 @@ pub mod Preparing
 pub mod Calling
 pub mod BesideSpills
 pub mod CallPlaces
-pub mod CodingPositions
 pub mod CodonHolds
 pub mod ShownCodons
 pub mod NumbersGiven

@@ -28,7 +28,7 @@ use Rattle.consequence.specs.Reading.{isIncompleteTerminalCodon, holdsSe
 use Rattle.consequence.specs.Coding.{showsCodon}
 use Rattle.consequence.specs.Answer.{codonColumns, placeResult}
 use Rattle.consequence.specs.Call.{callPlace, callCodon, callResult}
-use Rattle.consequence.specs.claims.CodingPositions.{codonByte, ShownCodons}
+use Rattle.consequence.specs.claims.Codons.{codonByte, ShownCodons}
 use Rattle.consequence.proofs.CallPlaces.{answers, call-location}
 use Rattle.consequence.proofs.CodonHolds.{codonHoldsBase}
 

@@ -1,21 +1,14 @@
 -- Reading a codon: the coding bases at its padded offsets.
 use Prim.Native.Nat.{ℕ, _+_, _-_, _%_}
 use mathlib.Core.Bool.{Bool, true, false, cond, not, _&&_}
-use mathlib.Core.List.{List, [], _∷_}
 use lib.Dec.{leb, ltb, eqb}
 use Rattle.common.specs.Text.{byte}
 use Rattle.common.specs.Lists.{memb}
-use Rattle.transcript.specs.Orient.{Interval, Oriented}
-use Rattle.transcript.specs.Bases.{size}
-use Rattle.locate.specs.Place.{totalCdsLength}
+use Rattle.transcript.specs.Orient.{Oriented}
+use Rattle.locate.specs.Place.{codingPosition, totalCdsLength}
 use Rattle.locate.specs.Index.{selenocysteineCodons}
 use Rattle.consequence.specs.declared.FetchedBase.{FetchedBase}
 use Rattle.consequence.specs.declared.FetchedCodon.{FetchedCodon}
-
--- the position of coding base k, counted from 0 without the pad
-unfoldable pub codingPosition : List Interval → ℕ → ℕ
-codingPosition [] k = 0
-codingPosition (g ∷ gs) k = cond (ltb k (size g)) (g .start + k) (codingPosition gs (k - size g))
 
 -- the base at padded offset k, where `view` gives the coding base at a position; a pad place reads N
 unfoldable pub cdsBase : Oriented → (ℕ → FetchedBase) → ℕ → FetchedBase

@@ -1,3 +1,3 @@
 pub mod CallPlaces
-pub mod CodingPositions
+pub mod Codons
 pub mod Numbers

@@ -22,4 +22,5 @@ pub mod VariantCases
 pub mod BasesBefore
 pub mod AloneFacts
 pub mod CodingBases
+pub mod CodingPositions
 pub mod NumbersGiven

@@ -10,7 +10,7 @@ use Rattle.locate.specs.declared.VariantLocation.the-variants.{FivePrime
 use Rattle.footprint.specs.declared.Ranges.{Ranges}
 use Rattle.footprint.specs.Ranges.{spliceRegionExonMax}
 use Rattle.transcript.specs.Orient.{Interval, Oriented}
-use Rattle.transcript.specs.Bases.{basesIn, totalSize, firstStart, lastEnd}
+use Rattle.transcript.specs.Bases.{size, basesIn, totalSize, firstStart, lastEnd}
 use Rattle.locate.specs.Find.{Found, inExon, inIntron, outside, findExonOrIntron}
 use Rattle.locate.specs.Intronic.{minus, classifyIntronic}
 
@@ -28,6 +28,11 @@ intervalIndex (g ∷ gs) p = cond (ltb p (g .end)) 0 (suc (intervalIndex gs p))
 -- the padded offset: the pad and the coding bases before the base
 abbrev pub cdsOffset : Oriented → ℕ → ℕ
 cdsOffset t p = t .pad + basesIn (t .segments) 0 p
+
+-- where coding base k of the segments stands, k counted from 0 without the pad
+unfoldable pub codingPosition : List Interval → ℕ → ℕ
+codingPosition [] k = 0
+codingPosition (g ∷ gs) k = cond (ltb k (size g)) (g .start + k) (codingPosition gs (k - size g))
 
 -- the padded length of the CDS
 abbrev pub totalCdsLength : Oriented → ℕ

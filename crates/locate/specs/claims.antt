@@ -1,2 +1,3 @@
 pub mod CodingBases
+pub mod CodingPositions
 pub mod Numbers

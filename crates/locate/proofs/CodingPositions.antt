@@ -17,12 +17,12 @@ use Rattle.transcript.specs.Admission.{Admitted}
 use Rattle.transcript.proofs.Orient.{inside-start, inside-end, inside-by, orient-twice}
 use Rattle.transcript.proofs.Ascends.{Ascends, inside-from}
 use Rattle.transcript.proofs.Admitted.{facts}
 use Rattle.locate.specs.claims.CodingBases.{isCoding}
 use Rattle.locate.proofs.Sums.{bases-none}
 use Rattle.locate.proofs.CodingExons.{segments-ascend}
 use Rattle.locate.proofs.CodingBases.{coding-oriented, coding-low, segments-high, bases-before, codingPlaces, offsetsCount}
-use Rattle.consequence.specs.Reading.{codingPosition}
-use Rattle.consequence.specs.claims.CodingPositions.{codingCoordinate, CodingBaseCounts, CodingBasePlaced, CodingBaseStands}
+use Rattle.locate.specs.Place.{codingPosition}
+use Rattle.locate.specs.claims.CodingPositions.{codingCoordinate, CodingBaseCounts, CodingBasePlaced, CodingBaseStands}
 
 -- the bases of an interval before a base of it, and before one past it
 before-in : (s e p : ℕ) → p < e → min e p - max s 0 ≡ p - s
