@@ -29,34 +29,6 @@ abbrev pub cdnaCount : CdnaCounted → Counted
 cdnaCount CdnaCounted.Absent = Counted.Absent
 cdnaCount (CdnaCounted.At p) = Counted.At (p .0)
 
--- outside the transcript only the place and the term are given
-abbrev pub flankResult : VariantLocation → ℕ → ConsequenceResult
-flankResult place terms = record {
-  location = place;
-  exon = Numbered.Absent;
-  intron = Numbered.Absent;
-  «cds_position» = Counted.Absent;
-  «cdna_position» = CdnaCounted.Absent;
-  «protein_start» = Counted.Absent;
-  codons = Codons.Absent;
-  «amino_acids» = AminoAcids.Absent;
-  consequences = record { 0 = terms };
-}
-
--- in intron i: its number of all introns
-abbrev pub intronResult : Oriented → VariantLocation → ℕ → ℕ → ConsequenceResult
-intronResult t place i terms = record {
-  location = place;
-  exon = Numbered.Absent;
-  intron = Numbered.Of (i + 1) (length (t .exons) - 1);
-  «cds_position» = Counted.Absent;
-  «cdna_position» = CdnaCounted.Absent;
-  «protein_start» = Counted.Absent;
-  codons = Codons.Absent;
-  «amino_acids» = AminoAcids.Absent;
-  consequences = record { 0 = terms };
-}
-
 -- what a coding base's codon gives: CDS position, codon number, codons, letters, terms
 pub record Columns : Type 0 where
   pub position : Counted
@@ -69,19 +41,31 @@ pub record Columns : Type 0 where
 abbrev pub noCodon : Columns
 noCodon = record { position = Counted.Absent; number = Counted.Absent; codons = Codons.Absent; letters = AminoAcids.Absent; terms = 0 }
 
--- in exon i at position p
-abbrev pub exonResult : Oriented → ℕ → VariantLocation → ℕ → Columns → ℕ → ConsequenceResult
-exonResult t p place i c terms = record {
+-- the columns of an answer, with a codon's
+abbrev pub answerOf : VariantLocation → Numbered → Numbered → CdnaCounted → Columns → ℕ → ConsequenceResult
+answerOf place exon intron cdna c terms = record {
   location = place;
-  exon = Numbered.Of (i + 1) (length (t .exons));
-  intron = Numbered.Absent;
+  exon = exon;
+  intron = intron;
   «cds_position» = c .position;
-  «cdna_position» = CdnaCounted.At (record { 0 = cdnaPosition t p });
+  «cdna_position» = cdna;
   «protein_start» = c .number;
   codons = c .codons;
   «amino_acids» = c .letters;
   consequences = record { 0 = terms };
 }
+
+-- outside the transcript only the place and the term are given
+abbrev pub flankResult : VariantLocation → ℕ → ConsequenceResult
+flankResult place terms = answerOf place Numbered.Absent Numbered.Absent CdnaCounted.Absent noCodon terms
+
+-- in intron i: its number of all introns
+abbrev pub intronResult : Oriented → VariantLocation → ℕ → ℕ → ConsequenceResult
+intronResult t place i terms = answerOf place Numbered.Absent (Numbered.Of (i + 1) (length (t .exons) - 1)) CdnaCounted.Absent noCodon terms
+
+-- in exon i at position p
+abbrev pub exonResult : Oriented → ℕ → VariantLocation → ℕ → Columns → ℕ → ConsequenceResult
+exonResult t p place i c terms = answerOf place (Numbered.Of (i + 1) (length (t .exons))) Numbered.Absent (CdnaCounted.At (record { 0 = cdnaPosition t p })) c terms
 
 -- an unfinished last codon: its own bases as codons, letter X
 abbrev pub incompleteCodon : ℕ → ℕ → Codon → Codon → ℕ → Columns

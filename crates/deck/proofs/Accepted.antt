@@ -19,7 +19,8 @@ use Rattle.deck.specs.Records.{recordCount, kindOf, word}
 use Rattle.deck.specs.Walk.{walkDeck}
 use Rattle.deck.specs.code.Order.{orderOf}
 use Rattle.deck.specs.Deck.{badLength, structureOf, partsOf, admitted, readDeck, deckTranscripts}
-use Rattle.deck.specs.code.Table.{column, numberOf, tableOf, emptyTable, rowsFrom, tableTranscripts, admitRows, admitTable, deckAs, deckOf}
+use Rattle.deck.specs.code.Table.{column, numberOf, tableOf, emptyTable, rowsFrom, tableTranscripts, admitRows, admitTable, tableAs, deckAs, deckOf}
+use Rattle.deck.specs.claims.Transcripts.{TableHolds}
 use Rattle.deck.proofs.Grown.{walk-order}
 use Rattle.deck.proofs.Distinct.{walk-few}
 use Rattle.deck.proofs.Tabled.{rows-transcripts}
@@ -66,6 +67,10 @@ sound-deck d e = here (structureOf d) e
 
 pub accepted-transcripts : (d : List ℕ) → readDeck d ≡ Accepted → tableTranscripts (tableOf d (orderOf (walkDeck d))) ≡ deckTranscripts d
 accepted-transcripts d e = sound-transcripts d (sound-deck d e .1)
+
+pub tableHolds : TableHolds
+unfolding deckOf
+tableHolds d e = ap (λ (a : DeckAnswer). tableTranscripts (tableAs a (tableOf d (orderOf (walkDeck d))))) e ∙ accepted-transcripts d e
 
 -- the code's columns are the table
 map-same : (f g : ℕ → ℕ) (is : List ℕ) → ((i : ℕ) → f i ≡ g i) → map f is ≡ map g is

@@ -8,13 +8,11 @@ use consequence::annotate_snv;
 use transcript::Exon;
 use transcript::TranscriptModel;
 ghost use mathlib.Core.Path.{_≡_};
-ghost use mathlib.Core.List.{List};
-ghost use Rattle.transcript.specs.declared.Exon.{Exon as Record};
 ghost use Rattle.footprint.specs.Ranges.{sourceRanges};
 ghost use Rattle.consequence.specs.Window.{windowWasGiven};
 ghost use Rattle.consequence.specs.Call.{annotateSnv};
-ghost use Rattle.records.specs.Records.{recordsLent, recordsWereGiven};
-ghost use Rattle.records.specs.code.Table.{Tabled};
+ghost use Rattle.records.specs.Records.{recordsWereGiven};
+ghost use Rattle.records.specs.code.Table.{OnRecords, callAsked};
 ghost use Rattle.records.specs.Windows.{windowOf};
 
 // The call on the records of a table; over 512 records are refusal 1.
@@ -31,9 +29,9 @@ fn annotate_table(
     seg_ends: &[u64],
     selenocysteine: &[u64],
 ) -> Called
-    ensures { λ r. ⌜ ((xs : List Record) → Tabled xs table →
-        let t = recordsLent model xs «seg_phases» «seg_exons» «seg_starts» «seg_ends» selenocysteine in
-        r ≡ annotateSnv sourceRanges t (windowWasGiven «window_chromosome» «window_first» window) call) ⌝ }
+    ensures { λ r.
+        let w = windowWasGiven «window_chromosome» «window_first» window in
+        ⌜ OnRecords (callAsked w call) model table «seg_phases» «seg_exons» «seg_starts» «seg_ends» selenocysteine r ⌝ }
 {
     let n = table.count;
     if 512 < n {

@@ -6,12 +6,10 @@ use locate::locate_variant;
 use transcript::Exon;
 use transcript::TranscriptModel;
 ghost use mathlib.Core.Path.{_≡_};
-ghost use mathlib.Core.List.{List};
-ghost use Rattle.transcript.specs.declared.Exon.{Exon as Record};
 ghost use Rattle.footprint.specs.Ranges.{sourceRanges};
 ghost use Rattle.locate.specs.Query.{locateVariant};
-ghost use Rattle.records.specs.Records.{recordsLent, recordsWereGiven};
-ghost use Rattle.records.specs.code.Table.{Tabled};
+ghost use Rattle.records.specs.Records.{recordsWereGiven};
+ghost use Rattle.records.specs.code.Table.{OnRecords, placeAsked};
 
 // The place on the records of a table; over 512 records are refusal 1.
 fn locate_table(
@@ -26,9 +24,7 @@ fn locate_table(
     seg_ends: &[u64],
     selenocysteine: &[u64],
 ) -> Located
-    ensures { λ r. ⌜ ((xs : List Record) → Tabled xs table →
-        let t = recordsLent model xs «seg_phases» «seg_exons» «seg_starts» «seg_ends» selenocysteine in
-        r ≡ locateVariant sourceRanges t chromosome start end) ⌝ }
+    ensures { λ r. ⌜ OnRecords (placeAsked chromosome start end) model table «seg_phases» «seg_exons» «seg_starts» «seg_ends» selenocysteine r ⌝ }
 {
     let n = table.count;
     if 512 < n {
