@@ -45,7 +45,7 @@ pub fn show_place(place: VariantLocation) {
             codon_position,
             is_splice_region,
             ..
-        } => coding_base(cds_offset, codon_number, codon_position, is_splice_region),
+        } => coding_base(cds_offset.0, codon_number, codon_position, is_splice_region),
         VariantLocation::ThreePrimeUtr {
             offset_from_cds_end,
             ..
