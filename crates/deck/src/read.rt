@@ -23,7 +23,8 @@ ghost use Prim.Native.Nat.{_≤_};
 ghost use mathlib.Core.Path.{_≡_};
 ghost use lib.ListN.{length};
 ghost use Rattle.transcript.specs.Admission.{admissionOf};
-ghost use Rattle.deck.specs.code.Table.{InOrder, tableWasGiven, transcriptIn, rowsFrom, admitRows, admitTable, tableOf, emptyTable, deckAs, deckOf};
+ghost use Rattle.deck.specs.code.Table.{InOrder, tableWasGiven, rowsFrom, admitRows, admitTable};
+ghost use Rattle.deck.specs.code.Table.{tableOf, emptyTable, deckAs, deckOf, transcriptWasGiven};
 ghost use Rattle.deck.specs.code.Reached.{InDeck};
 ghost use Rattle.deck.specs.declared.DeckAnswer.the-variants.{Refused};
 
@@ -39,7 +40,7 @@ fn admit_row(
 ) -> Admission
     requires { ⌜ InOrder k rows ⌝ }
     ensures { λ r.
-        let t = transcriptIn (now marks.entry) (now ids.entry) (now numbers.entry) (now starts.entry) (now ends.entry) k rows in
+        let t = transcriptWasGiven marks ids numbers starts ends k rows in
         ⌜ r ≡ admissionOf t ⌝ }
 {
     admit(

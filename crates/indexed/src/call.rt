@@ -16,7 +16,7 @@ ghost use lib.ListN.{getD, drop};
 ghost use Rattle.consequence.specs.Window.{windowWasGiven};
 ghost use Rattle.listing.specs.Listing.{listedCall};
 ghost use Rattle.consequence.specs.code.Prepared.{Summed};
-ghost use Rattle.deck.specs.code.Table.{InOrder, transcriptIn};
+ghost use Rattle.deck.specs.code.Table.{InOrder, transcriptGiven, transcriptWasGiven};
 ghost use Rattle.indexed.specs.code.TableIndex.{cdsRow};
 
 fn widened(n: u16) -> usize
@@ -85,10 +85,10 @@ pub(crate) fn call_indexed(
     short: bool,
 ) -> Called
     requires { ⌜ InOrder k rows ⌝ }
-    requires { let t = transcriptIn (now marks) (now ids) (now numbers) (now starts) (now ends) k rows in
+    requires { let t = transcriptGiven marks ids numbers starts ends k rows in
         ⌜ Summed t (drop k (now sums)) (drop (cdsRow k rows) (now sums)) short ⌝ }
     ensures { λ r.
-        let t = transcriptIn (now marks.entry) (now ids.entry) (now numbers.entry) (now starts.entry) (now ends.entry) k rows in
+        let t = transcriptWasGiven marks ids numbers starts ends k rows in
         let w = windowWasGiven «window_chromosome» «window_first» window in
         ⌜ r ≡ listedCall t w call ⌝ }
 {

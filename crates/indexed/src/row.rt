@@ -17,7 +17,7 @@ ghost use Prim.Native.Nat.{_+_, _≤_, _<_};
 ghost use lib.ListN.{length};
 ghost use Rattle.transcript.specs.Transcript.{given, wasGiven};
 ghost use Rattle.transcript.specs.Admission.{admission};
-ghost use Rattle.deck.specs.code.Table.{InOrder, transcriptIn};
+ghost use Rattle.deck.specs.code.Table.{InOrder, transcriptWasGiven};
 ghost use Rattle.indexed.specs.code.TableIndex.{rowIndex, rowSums};
 
 // Whether the transcript at a row is admitted, and then whether it has a short intron.
@@ -94,7 +94,7 @@ pub(crate) fn index_row(
     requires { ⌜ InOrder row rows ⌝ }
     requires { ⌜ length (now sums) ≡ 4096 ⌝ }
     ensures { λ r.
-        let t = transcriptIn (now marks.entry) (now ids.entry) (now numbers.entry) (now starts.entry) (now ends.entry) row rows in
+        let t = transcriptWasGiven marks ids numbers starts ends row rows in
         ⌜ (r ≡ rowIndex t) × (now sums.exit ≡ rowSums t row (rows .exons) (now sums.entry)) ⌝ }
 {
     index_transcript(

@@ -49,6 +49,6 @@ module _ (deck window calls : List ℕ) where
       here true f = rw f refl
       here false f = rw f (all-steps e (right-files window calls f .1))
 
-pub whole : WholeListing
+pub wholeListing : WholeListing
 unfolding listing opened deckOf table
-whole deck window calls = judged deck window calls (readDeck deck) refl
+wholeListing deck window calls = judged deck window calls (readDeck deck) refl

@@ -12,7 +12,7 @@ use deck::rows::model_in;
 ghost use mathlib.Core.Path.{_≡_};
 ghost use Rattle.consequence.specs.Window.{windowWasGiven};
 ghost use Rattle.listing.specs.Listing.{listedCall};
-ghost use Rattle.deck.specs.code.Table.{InOrder, transcriptIn};
+ghost use Rattle.deck.specs.code.Table.{InOrder, transcriptWasGiven};
 
 // The answer to a call on the transcript at row k.
 pub(crate) fn call_at(
@@ -30,7 +30,7 @@ pub(crate) fn call_at(
 ) -> Called
     requires { ⌜ InOrder k rows ⌝ }
     ensures { λ r.
-        let t = transcriptIn (now marks.entry) (now ids.entry) (now numbers.entry) (now starts.entry) (now ends.entry) k rows in
+        let t = transcriptWasGiven marks ids numbers starts ends k rows in
         let w = windowWasGiven «window_chromosome» «window_first» window in
         ⌜ r ≡ listedCall t w call ⌝ }
 {

@@ -24,7 +24,9 @@ fn locate_table(
     seg_ends: &[u64],
     selenocysteine: &[u64],
 ) -> Located
-    ensures { λ r. ⌜ OnRecords (placeAsked chromosome start end) model table «seg_phases» «seg_exons» «seg_starts» «seg_ends» selenocysteine r ⌝ }
+    ensures { λ r.
+        let asked = placeAsked chromosome start end in
+        ⌜ OnRecords asked model table «seg_phases» «seg_exons» «seg_starts» «seg_ends» selenocysteine r ⌝ }
 {
     let n = table.count;
     if 512 < n {

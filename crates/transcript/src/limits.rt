@@ -6,7 +6,7 @@ ghost use lib.ListN.{length};
 ghost use Rattle.common.specs.Lists.{any};
 ghost use Rattle.transcript.specs.Transcript.{exonsOf, evenLengths, cdsStart, cdsEnd};
 ghost use Rattle.transcript.specs.Admission.{badNumbers, badExon, overLimit, badScalars};
-ghost use Rattle.transcript.specs.code.Lent.{badListed};
+ghost use Rattle.transcript.specs.code.Lent.{badWereListed};
 
 // The largest coordinate of a transcript.
 const LIMIT: u64 = 1_000_000_000;
@@ -145,9 +145,7 @@ pub(crate) fn bad_coordinates(
 ) -> bool
     requires { ⌜ length (now «exon_starts») ≡ length (now «exon_ends») ⌝ }
     requires { ⌜ length (now «seg_starts») ≡ length (now «seg_ends») ⌝ }
-    ensures { λ r. ⌜ r ≡ badListed model
-        (now «exon_starts».entry) (now «exon_ends».entry)
-        (now «seg_starts».entry) (now «seg_ends».entry) (now bases.entry) ⌝ }
+    ensures { λ r. ⌜ r ≡ badWereListed model «exon_starts» «exon_ends» «seg_starts» «seg_ends» bases ⌝ }
 {
     if bad_edges(exon_starts, exon_ends) {
         return true;

@@ -13,7 +13,8 @@ ghost use mathlib.Core.Path.{_≡_};
 ghost use lib.ListN.{length};
 ghost use lib.Seq.{sets};
 ghost use Rattle.consequence.specs.Answer.{cdnaCount};
-ghost use Rattle.consequence.specs.Numbers.{numberOf, totalOf, countOf, codonWord, referenceWord, alteredWord, changedPlace, lettersWord, columnWords};
+ghost use Rattle.consequence.specs.Numbers.{numberOf, totalOf, countOf, codonWord, columnWords};
+ghost use Rattle.consequence.specs.Numbers.{referenceWord, alteredWord, changedPlace, lettersWord};
 
 fn number_of(n: Numbered) -> u32
     ensures { λ r. ⌜ r ≡ numberOf n ⌝ }

@@ -118,6 +118,13 @@ transcriptIn marks ids numbers starts ends k r =
     (part (r .bounds) (r .segments) marks) (part (r .bounds) (r .segments) numbers) (part (r .bounds) (r .segments) starts)
     (part (r .bounds) (r .segments) ends) (part (r .segments) (r .bases) starts)
 
+-- the transcript in columns that are given, and that were given
+abbrev pub transcriptGiven : Slice → Slice → Slice → Slice → Slice → ℕ → Rows → Transcript
+transcriptGiven marks ids numbers starts ends k r = transcriptIn (now marks) (now ids) (now numbers) (now starts) (now ends) k r
+
+abbrev pub transcriptWasGiven : Passed → Passed → Passed → Passed → Passed → ℕ → Rows → Transcript
+transcriptWasGiven marks ids numbers starts ends k r = transcriptGiven (marks .entry) (ids .entry) (numbers .entry) (starts .entry) (ends .entry) k r
+
 abbrev pub transcriptAt : DeckTable → ℕ → Transcript
 transcriptAt t k = transcriptIn (t .marks) (t .ids) (t .numbers) (t .starts) (t .ends) k (rowsAt (t .kinds) k)
 

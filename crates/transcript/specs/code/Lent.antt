@@ -5,7 +5,9 @@ use lib.ListN.{length}
 use mathlib.Core.Bool.{Bool, false, not, _&&_, _||_}
 use mathlib.Core.List.{List, [], _∷_, map}
 use lib.Dec.{ltb}
+use denote.Ref.{now}
 use Rattle.common.specs.Refuse.{refuse}
+use Rattle.common.specs.Slices.{Passed}
 use Rattle.common.specs.Lists.{any}
 use Rattle.transcript.specs.declared.Strand.{Strand}
 use Rattle.transcript.specs.declared.TranscriptModel.{TranscriptModel}
@@ -62,6 +64,11 @@ pub record Cuttable (starts ends : List ℕ) (cdsStart cdsEnd : ℕ) (indexes se
 abbrev pub badListed : TranscriptModel → List ℕ → List ℕ → List ℕ → List ℕ → List ℕ → Bool
 badListed m starts ends segmentStarts segmentEnds bases =
     any badExon (exonsOf starts ends) || (any badExon (exonsOf segmentStarts segmentEnds) || (any overLimit bases || badScalars m))
+
+-- the same of slices that were given, as an `ensures` names them
+abbrev pub badWereListed : TranscriptModel → Passed → Passed → Passed → Passed → Passed → Bool
+badWereListed m starts ends segmentStarts segmentEnds bases =
+    badListed m (now (starts .entry)) (now (ends .entry)) (now (segmentStarts .entry)) (now (segmentEnds .entry)) (now (bases .entry))
 
 -- 10, 11, 12: of a CDS, exons and segments in oriented coordinates
 abbrev pub cdsFault : Bool → Interval → List Interval → List Cut → ℕ
