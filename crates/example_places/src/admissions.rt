@@ -64,7 +64,7 @@ fn both(start: u64, end: u64) -> CdsBounds {
     }
 }
 
-pub fn show() {
+pub(crate) fn show() {
     admission(T1, &[130, 170], &[111]);
     admission(T1, &[130], &[]);
     plain(TwoExons {

@@ -57,7 +57,7 @@ fn beside_four(x: FourExons, start: u64, end: u64) -> Flanked {
 }
 
 // The line of an insertion at p.
-pub fn insertion(x: TwoExons, p: u64) {
+pub(crate) fn insertion(x: TwoExons, p: u64) {
     print(b"insertion at");
     number(p);
     print(b" ");
@@ -86,7 +86,7 @@ fn flank(chromosome: u16, start: u64, end: u64) {
     );
 }
 
-pub fn show() {
+pub(crate) fn show() {
     flank(1, 5189, 5190);
     flank(1, 100, 100);
     flank(1, 99, 100);

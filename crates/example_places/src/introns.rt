@@ -87,7 +87,7 @@ fn spill(x: FourExons, start: u64, end: u64) {
     print(b"\n");
 }
 
-pub fn show() {
+pub(crate) fn show() {
     short_intron(PLUS, 114, 128);
     short_intron(PLUS, 140, 142);
     short_intron(PLUS, 130, 141);

@@ -45,7 +45,7 @@ fn place(x: TwoExons, p: u64) {
     print(b"\n");
 }
 
-pub fn show() {
+pub(crate) fn show() {
     place(T1, 99);
     place(T1, 109);
     place(T1, 110);

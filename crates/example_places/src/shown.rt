@@ -30,7 +30,7 @@ fn coding_base(offset: u32, codon: u32, position: u8, is_splice_region: bool) {
 }
 
 // The place's name with what document 01 says of it.
-pub fn show_place(place: VariantLocation) {
+pub(crate) fn show_place(place: VariantLocation) {
     match place {
         VariantLocation::Upstream { distance } => counted(b"Upstream", distance),
         VariantLocation::Downstream { distance } => counted(b"Downstream", distance),
@@ -66,7 +66,7 @@ pub fn show_place(place: VariantLocation) {
     }
 }
 
-pub fn show_flanked(flanked: Flanked) {
+pub(crate) fn show_flanked(flanked: Flanked) {
     match flanked {
         Flanked::Beside(flank) => show_flank(flank),
         Flanked::Refused(n) => refused(n),

@@ -5,15 +5,15 @@ use transcript::Strand;
 ghost use mathlib.Core.Path.{_≡_};
 ghost use lib.IntN.{natAbs};
 
-pub fn print(text: &[u8]) {
+pub(crate) fn print(text: &[u8]) {
     io::write_all(STDOUT_FILENO, text);
 }
 
-pub fn decimal(n: u64) {
+pub(crate) fn decimal(n: u64) {
     print_decimal(STDOUT_FILENO, n);
 }
 
-pub fn number(n: u64) {
+pub(crate) fn number(n: u64) {
     print(b" ");
     decimal(n);
 }
@@ -25,7 +25,7 @@ fn magnitude(n: i64) -> u64
 }
 
 // A number with its sign, + for 0.
-pub fn signed(n: i64) {
+pub(crate) fn signed(n: i64) {
     if n < 0 {
         print(b" -");
     } else {
@@ -34,12 +34,12 @@ pub fn signed(n: i64) {
     decimal(magnitude(n));
 }
 
-pub fn refused(n: u8) {
+pub(crate) fn refused(n: u8) {
     print(b"refused");
     number(n as u64);
 }
 
-pub fn strand_word(strand: Strand) {
+pub(crate) fn strand_word(strand: Strand) {
     match strand {
         Strand::Plus => print(b" plus "),
         Strand::Minus => print(b" minus "),
@@ -47,7 +47,7 @@ pub fn strand_word(strand: Strand) {
 }
 
 // An interval as start-end.
-pub fn interval(start: u64, end: u64) {
+pub(crate) fn interval(start: u64, end: u64) {
     decimal(start);
     print(b"-");
     decimal(end);

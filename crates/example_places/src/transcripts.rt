@@ -55,7 +55,7 @@ pub const MINUS: FourExons = FourExons {
     ends: [200, 150, 140, 114],
 };
 
-pub fn coding(x: TwoExons) -> TranscriptModel {
+pub(crate) fn coding(x: TwoExons) -> TranscriptModel {
     let strand = x.strand;
     let cds = x.cds;
     TranscriptModel {
@@ -70,7 +70,7 @@ pub fn coding(x: TwoExons) -> TranscriptModel {
     }
 }
 
-pub fn noncoding(strand: Strand) -> TranscriptModel {
+pub(crate) fn noncoding(strand: Strand) -> TranscriptModel {
     TranscriptModel {
         id: 7,
         chromosome: 1,
