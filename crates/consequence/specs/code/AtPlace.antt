@@ -14,7 +14,7 @@ use Rattle.consequence.specs.declared.Called.{Called}
 use Rattle.consequence.specs.Answer.{noCodon, codonColumns, codonResult, placeResult, Columns}
 use Rattle.consequence.specs.Call.{lacksCodon, closingRefusal}
 
--- the same as the code hands it on
+-- the columns of a codon as the code hands them on
 abbrev pub columnsOf : CodonColumns → Columns
 columnsOf c = record { position = c .position; number = c .number; codons = c .codons; letters = c .letters; terms = c .terms .0 }
 

@@ -19,7 +19,7 @@ abbrev pub behind : Bool → List ℕ → List ℕ
 behind true l = l
 behind false l = byte "," ∷ l
 
--- the same line in three parts: up to the place, the numbers, and the rest with the newline
+-- the line of an answered call in three parts: up to the place, the numbers, and the rest with the newline
 unfoldable pub frontColumns : ℕ → ℕ → ℕ → List ℕ
 frontColumns number id kind = decimal number ++ (space ∷ (decimal id ++ (space ∷ (bytes "0" ++ (space ∷ (placeText kind ++ (space ∷ [])))))))
 
