@@ -6,7 +6,7 @@ use mathlib.Core.Bool.{Bool, true, false, cond}
 use mathlib.Core.List.{List, [], _∷_}
 use native.Mathlib.Omega.{arith}
 use native.Mathlib.Numerals.{add-one}
-use lib.ListN.{length, getD, take, drop, length-drop}
+use lib.ListN.{length, getD, take, drop, length-drop, drop-of-length-le}
 use lib.Seq.{drop-cons, drop-length}
 use lib.Dec.{eqb}
 use borrow.Author.Tests.{eq-eqb, ne-eqb, eqb-true}
@@ -38,8 +38,8 @@ line-on s i l h = rw (drop-cons s i 0 l, ne-eqb (getD s i 0) newline h, add-one)
 pub line-stop : (s : List ℕ) (i : ℕ) → i < length s → getD s i 0 ≡ newline → lineLength (drop i s) ≡ 1
 line-stop s i l h = rw (drop-cons s i 0 l, eq-eqb (getD s i 0) newline h)
 
-pub line-none : (s : List ℕ) (i : ℕ) → i ≡ length s → lineLength (drop i s) ≡ 0
-line-none s i e = rw (e, drop-length)
+pub line-none : (s : List ℕ) (i : ℕ) → length s ≤ i → lineLength (drop i s) ≡ 0
+line-none s i e = rw (drop-of-length-le s e)
 
 pub field-on : (s : List ℕ) (i : ℕ) → i < length s → (getD s i 0 ≡ space → ⊥) → fieldLength (drop i s) ≡ suc (fieldLength (drop (i + 1) s))
 field-on s i l h = rw (drop-cons s i 0 l, ne-eqb (getD s i 0) space h, add-one)

@@ -1,4 +1,4 @@
--- Demand 1 of the lister: its opening, its next line, and what it prints.
+-- Demand 1 of the lister: its opening, and what it prints.
 -- Assumes nothing.
 use Prim.Native.Nat.{ℕ, suc}
 use mathlib.Core.Path.{_≡_, refl}
@@ -7,7 +7,7 @@ use mathlib.Core.List.{List, [], _∷_, _++_, map}
 use mathlib.Core.Logic.{inl, inr}
 use lib.Dec.{eqb}
 use Rattle.common.specs.Refuse.{refuse, orElse}
-use Rattle.common.specs.Lists.{any, all, memb}
+use Rattle.common.specs.Lists.{any, all, memb, concat}
 use Rattle.common.proofs.TestParts.{on-test}
 use Rattle.footprint.specs.Ranges.{sourceRanges}
 use Rattle.transcript.specs.Transcript.{Transcript}
@@ -20,26 +20,20 @@ use Rattle.consequence.specs.claims.Numbers.{callNumbers}
 use Rattle.consequence.proofs.NumbersGiven.{callGiven}
 use Rattle.deck.specs.declared.DeckAnswer.{DeckAnswer}
 use Rattle.deck.specs.declared.DeckAnswer.the-variants.{Accepted, Refused}
-use Rattle.deck.specs.declared.DeckTable.{DeckTable}
 use Rattle.deck.specs.Deck.{readDeck, deckTranscripts}
 use Rattle.deck.specs.Numbers.{deckNumber, deckRecord, isAccepted}
 use Rattle.deck.specs.code.Table.{deckOf}
 use Rattle.deck.specs.claims.Numbers.{deckNumbers}
 use Rattle.deck.proofs.NumbersGiven.{deckGiven}
-use Rattle.lines.specs.declared.Written.{Written}
-use Rattle.lines.specs.Line.{calledLine, fits, writeAnswer}
-use Rattle.lines.specs.Numbers.{writtenNumber, isWritten}
-use Rattle.lines.proofs.NumbersGiven.{lineGiven}
+use Rattle.lines.specs.Line.{calledLine}
 use Rattle.listing.specs.declared.ParsedCall.{ParsedCall}
 use Rattle.listing.specs.declared.ParsedCall.the-variants.{Read, Malformed}
-use Rattle.listing.specs.declared.Cursor.{Cursor}
 use Rattle.listing.specs.WindowFile.{badWindowFile, badCallFile, windowOf}
 use Rattle.listing.specs.Calls.{linesOf, fieldsOf, isCall, callOf, parseCall}
-use Rattle.listing.specs.Listing.{listedCall, callLines, allLines, listingOf, listing}
-use Rattle.listing.specs.code.Opening.{openedAs, opened}
-use Rattle.listing.specs.code.Steps.{line, ended, listed}
-use Rattle.listing.specs.Numbers.{openingNumber, openingValues, isOpened, listedNumber, isListed}
-use Rattle.listing.specs.claims.Numbers.{ParsedGiven, openingNumbers, OpeningGiven, OpeningValued, NextGiven, NextValued, Each, printedNumbers, Printed, ListingGiven}
+use Rattle.listing.specs.Entries.{Entry, entryLine, listedCall, callEntries, entries}
+use Rattle.listing.specs.Listing.{openingBy, opening, listed, listingBy, listing}
+use Rattle.listing.specs.Numbers.{openingNumber, openingValues, isOpened}
+use Rattle.listing.specs.claims.Numbers.{ParsedGiven, openingNumbers, OpeningGiven, OpeningValued, Each, printedNumbers, Printed, ListingGiven}
 
 pub parsedGiven : ParsedGiven
 unfolding parseCall callOf
@@ -53,51 +47,37 @@ judged : (deck : List ℕ) → Judged (readDeck deck)
 unfolding deckOf
 judged deck = deckGiven deck
 
-abbrev OpensBy : DeckAnswer → DeckTable → List ℕ → List ℕ → Type 0
-OpensBy a t window calls =
+abbrev OpensBy : DeckAnswer → List ℕ → List ℕ → Type 0
+OpensBy a window calls =
     NumberGiven openingNumbers (orElse (deckNumber a) (refuse (badWindowFile window || badCallFile calls) 27 0))
-    (openingNumber (openedAs a t window calls .opening)) (isOpened (openedAs a t window calls .opening))
+    (openingNumber (openingBy a window calls)) (isOpened (openingBy a window calls))
 
-opening-by : (a : DeckAnswer) → Judged a → (t : DeckTable) (window calls : List ℕ) → OpensBy a t window calls
+opening-by : (a : DeckAnswer) → Judged a → (window calls : List ℕ) → OpensBy a window calls
 unfolding any all
-opening-by (Refused n i) g t window calls = record {
+opening-by (Refused n i) g window calls = record {
   refusal-is = rw (g .zero-answered);
   among = among-in deckNumbers openingNumbers refl n (g .among);
   zero-answered = g .zero-answered;
 }
-opening-by Accepted g t window calls = on-test (badWindowFile window || badCallFile calls)
+opening-by Accepted g window calls = on-test (badWindowFile window || badCallFile calls)
     (λ e. rw e (record { refusal-is = refl; among = refl; zero-answered = refl }))
     (λ e. rw e (record { refusal-is = refl; among = refl; zero-answered = refl }))
 
 pub openingGiven : OpeningGiven
-unfolding opened deckOf
-openingGiven deck window calls = opening-by (readDeck deck) (judged deck) (deckOf deck .table) window calls
+unfolding opening
+openingGiven deck window calls = opening-by (readDeck deck) (judged deck) window calls
 
-opening-valued : (a : DeckAnswer) (t : DeckTable) (window calls : List ℕ) →
-    openingValues (openedAs a t window calls .opening) ≡ cond (isOpened (openedAs a t window calls .opening)) [] (deckRecord a ∷ [])
-opening-valued (Refused n i) t window calls = refl
-opening-valued Accepted t window calls = on-test (badWindowFile window || badCallFile calls) (λ e. rw e) (λ e. rw e)
+opening-valued : (a : DeckAnswer) (window calls : List ℕ) →
+    openingValues (openingBy a window calls) ≡ cond (isOpened (openingBy a window calls)) [] (deckRecord a ∷ [])
+opening-valued (Refused n i) window calls = refl
+opening-valued Accepted window calls = on-test (badWindowFile window || badCallFile calls) (λ e. rw e) (λ e. rw e)
 
 pub openingValued : OpeningValued
-unfolding opened deckOf
-openingValued deck window calls = opening-valued (readDeck deck) (deckOf deck .table) window calls
-
--- the answer has the number of the written line
-by-written : {ns : List ℕ} {w : ℕ} (c : Cursor) (x : Written) → NumberGiven ns w (writtenNumber x) (isWritten x) → NumberGiven ns w (listedNumber (listed x c)) (isListed (listed x c))
-by-written c (Written.Bytes n) g = g
-by-written c (Written.Refused n) g = g
-
-pub nextGiven : NextGiven
-unfolding any
-nextGiven buffer (line l c) = by-written c (writeAnswer buffer l) (lineGiven buffer l)
-nextGiven buffer ended = record { refusal-is = refl; among = refl; zero-answered = refl }
-
-pub nextValued : NextValued
-nextValued buffer (line l c) = on-test (fits buffer l) (λ e. rw e) (λ e. rw e)
-nextValued buffer ended = refl
+unfolding opening
+openingValued deck window calls = opening-valued (readDeck deck) window calls
 
 module _ {A : Type 0} (so : A → Type 0) where
-  each-both : (xs ys : List A) → Each so xs → Each so ys → Each so (xs ++ ys)
+  pub each-both : (xs ys : List A) → Each so xs → Each so ys → Each so (xs ++ ys)
   each-both [] ys h k = k
   each-both (x ∷ xs) ys h k = (h .0, each-both xs ys (h .1) k)
 
@@ -115,25 +95,34 @@ unfolding any all
 called-printed number id (Called.Answered a) g = inl (number, id, a, refl)
 called-printed number id (Called.Refused n) g = inr (number, id, n, printed-number callNumbers refl n (g .among) (g .zero-answered), refl)
 
-call-printed : (ts : List Transcript) (w : Window) (number : ℕ) (p : ParsedCall) → Each Printed (callLines ts w number p)
+-- the line of an entry
+abbrev PrintedEntry : Entry → Type 0
+PrintedEntry e = Printed (entryLine e)
+
+call-printed : (ts : List Transcript) (w : Window) (number : ℕ) (p : ParsedCall) → Each PrintedEntry (callEntries ts w number p)
 unfolding any
 call-printed ts w number (Read q) =
-    each-of Printed (λ (t : Transcript). calledLine number (t .model .id) (listedCall t w q))
+    each-of PrintedEntry (λ (t : Transcript). record { number = number; id = t .model .id; answer = listedCall t w q })
     (λ t. called-printed number (t .model .id) (listedCall t w q) (callGiven sourceRanges t w q)) ts
 call-printed ts w number Malformed = (inr (number, 0, 26, refl, refl), tt)
 
-all-printed : (ts : List Transcript) (w : Window) (number : ℕ) (ls : List (List ℕ)) → Each Printed (allLines ts w number ls)
-unfolding allLines
+all-printed : (ts : List Transcript) (w : Window) (number : ℕ) (ls : List (List ℕ)) → Each PrintedEntry (concat (entries ts w number ls))
+unfolding entries concat
 all-printed ts w number [] = tt
-all-printed ts w number (l ∷ ls) = each-both Printed (callLines ts w number (parseCall l)) (allLines ts w (suc number) ls) (call-printed ts w number (parseCall l)) (all-printed ts w (suc number) ls)
+all-printed ts w number (l ∷ ls) =
+    each-both PrintedEntry (callEntries ts w number (parseCall l)) (concat (entries ts w (suc number) ls)) (call-printed ts w number (parseCall l)) (all-printed ts w (suc number) ls)
 
-printed-by : (a : DeckAnswer) → Judged a → (deck window calls : List ℕ) → Each Printed (listingOf a deck window calls)
-unfolding any all listingOf
+lines-printed : (es : List Entry) → Each PrintedEntry es → Each Printed (map entryLine es)
+lines-printed [] h = tt
+lines-printed (e ∷ es) h = (h .0, lines-printed es (h .1))
+
+printed-by : (a : DeckAnswer) → Judged a → (deck window calls : List ℕ) → Each Printed (listingBy (openingBy a window calls) (listed deck window calls))
+unfolding any all
 printed-by (Refused n i) g deck window calls = (inr (0, i, n, printed-number deckNumbers refl n (g .among) (g .zero-answered), refl), tt)
 printed-by Accepted g deck window calls = on-test (badWindowFile window || badCallFile calls)
     (λ e. rw e (inr (0, 0, 27, refl, refl), tt))
-    (λ e. rw e (all-printed (deckTranscripts deck) (windowOf window) 1 (linesOf calls)))
+    (λ e. rw e (lines-printed (concat (listed deck window calls)) (all-printed (deckTranscripts deck) (windowOf window) 1 (linesOf calls))))
 
 pub listingGiven : ListingGiven
-unfolding listing
+unfolding listing opening
 listingGiven deck window calls = printed-by (readDeck deck) (judged deck) deck window calls

@@ -5,7 +5,7 @@ use mathlib.Core.List.{List, [], _∷_}
 use Rattle.listing.specs.declared.ParsedCall.{ParsedCall}
 use Rattle.listing.specs.declared.ParsedCall.the-variants.{Read, Malformed}
 use Rattle.listing.specs.declared.Opening.{Opening}
-use Rattle.listing.specs.declared.Listed.{Listed}
+use Rattle.listing.specs.declared.Piece.{Piece}
 
 abbrev pub parsedNumber : ParsedCall → ℕ
 parsedNumber (Read q) = 0
@@ -28,18 +28,18 @@ abbrev pub isOpened : Opening → Bool
 isOpened Opening.Listing = true
 isOpened (Opening.Refused i n) = false
 
-abbrev pub listedNumber : Listed → ℕ
-listedNumber (Listed.Line n c) = 0
-listedNumber Listed.End = 0
-listedNumber (Listed.Refused n) = n
+abbrev pub pieceNumber : Piece → ℕ
+pieceNumber (Piece.Lines n c) = 0
+pieceNumber (Piece.Last n) = 0
+pieceNumber (Piece.Refused n) = n
 
--- how many bytes were written, and the cursor behind the line
-abbrev pub listedValues : Listed → List ℕ
-listedValues (Listed.Line n c) = n ∷ c .at ∷ c .number ∷ c .row ∷ []
-listedValues Listed.End = []
-listedValues (Listed.Refused n) = []
+-- how many bytes were written, and the cursor behind them, none behind the last
+abbrev pub pieceValues : Piece → List ℕ
+pieceValues (Piece.Lines n c) = n ∷ c .at ∷ c .entry ∷ []
+pieceValues (Piece.Last n) = n ∷ []
+pieceValues (Piece.Refused n) = []
 
-abbrev pub isListed : Listed → Bool
-isListed (Listed.Line n c) = true
-isListed Listed.End = true
-isListed (Listed.Refused n) = false
+abbrev pub isPiece : Piece → Bool
+isPiece (Piece.Lines n c) = true
+isPiece (Piece.Last n) = true
+isPiece (Piece.Refused n) = false

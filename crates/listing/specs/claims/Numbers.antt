@@ -1,7 +1,7 @@
--- Demand 1 of the lister: its opening, its next line, and every line that it prints.
+-- Demand 1 of the lister: its opening, its pieces, and every line that it prints.
 use Prim.Native.Nat.{ℕ}
 use mathlib.Core.Path.{_≡_}
-use mathlib.Core.Bool.{true, cond, not, _||_}
+use mathlib.Core.Bool.{Bool, true, false, cond, not, _||_}
 use mathlib.Core.List.{List, [], _∷_}
 use mathlib.Core.Logic.{_⊎_}
 use lib.ListN.{length, getD}
@@ -12,14 +12,14 @@ use Rattle.transcript.specs.claims.Numbers.{NumberGiven}
 use Rattle.consequence.specs.declared.ConsequenceResult.{ConsequenceResult}
 use Rattle.deck.specs.Deck.{readDeck}
 use Rattle.deck.specs.Numbers.{deckNumber, deckRecord}
-use Rattle.lines.specs.Line.{answerLine, refusalLine, fits}
+use Rattle.lines.specs.Line.{answerLine, refusalLine}
 use Rattle.lines.specs.claims.Numbers.{writtenNumbers}
 use Rattle.listing.specs.WindowFile.{badWindowFile, badCallFile}
-use Rattle.listing.specs.Listing.{listing}
-use Rattle.listing.specs.code.Opening.{opened}
-use Rattle.listing.specs.code.Steps.{Next, line, ended, listedAs}
+use Rattle.listing.specs.declared.Cursor.{Cursor}
 use Rattle.listing.specs.Calls.{fieldsOf, field, value, isCall, parseCall}
-use Rattle.listing.specs.Numbers.{parsedNumber, parsedValues, openingNumber, openingValues, isOpened, listedNumber, listedValues, isListed}
+use Rattle.listing.specs.Listing.{opening, listing}
+use Rattle.listing.specs.Pieces.{Step, steps, packed, pieceOf}
+use Rattle.listing.specs.Numbers.{parsedNumber, parsedValues, openingNumber, openingValues, isOpened, pieceNumber, isPiece}
 
 -- 26 where a line has another shape; else the values of its four fields
 abbrev pub ParsedGiven : Type 0
@@ -37,29 +37,25 @@ abbrev pub OpeningGiven : Type 0
 OpeningGiven =
     (deck window calls : List ℕ) →
     NumberGiven openingNumbers (orElse (deckNumber (readDeck deck)) (refuse (badWindowFile window || badCallFile calls) 27 0))
-    (openingNumber (opened deck window calls .opening)) (isOpened (opened deck window calls .opening))
+    (openingNumber (opening deck window calls)) (isOpened (opening deck window calls))
 
 -- the record named with a refusal: the deck's, 0 with 27
 abbrev pub OpeningValued : Type 0
 OpeningValued =
     (deck window calls : List ℕ) →
-    openingValues (opened deck window calls .opening) ≡ cond (isOpened (opened deck window calls .opening)) [] (deckRecord (readDeck deck) ∷ [])
+    openingValues (opening deck window calls) ≡ cond (isOpened (opening deck window calls)) [] (deckRecord (readDeck deck) ∷ [])
 
--- 28 where the next line is longer than the lent buffer, and only then
-abbrev pub nextRefusal : List ℕ → Next → ℕ
-nextRefusal buffer (line l c) = refuse (ltb (length buffer) (length l)) 28 0
-nextRefusal buffer ended = 0
+-- the first line is longer than the room
+abbrev pub tooLong : ℕ → List Step → Bool
+tooLong room [] = false
+tooLong room (s ∷ ss) = ltb room (length (s .text))
 
-abbrev pub NextGiven : Type 0
-NextGiven = (buffer : List ℕ) (next : Next) → NumberGiven writtenNumbers (nextRefusal buffer next) (listedNumber (listedAs buffer next)) (isListed (listedAs buffer next))
-
--- how many bytes were written, and the cursor behind them
-abbrev pub nextValues : List ℕ → Next → List ℕ
-nextValues buffer (line l c) = cond (fits buffer l) (length l ∷ c .at ∷ c .number ∷ c .row ∷ []) []
-nextValues buffer ended = []
-
-abbrev pub NextValued : Type 0
-NextValued = (buffer : List ℕ) (next : Next) → listedValues (listedAs buffer next) ≡ nextValues buffer next
+-- 28 where the first line is longer than the lent buffer, and only then; a refused deck, window or call gives a line
+abbrev pub PieceGiven : Type 0
+PieceGiven =
+    (deck window calls : List ℕ) (c : Cursor) (buffer : List ℕ) →
+    let p = pieceOf (packed deck window calls c buffer) in
+    NumberGiven writtenNumbers (refuse (tooLong (length buffer) (steps deck window calls c)) 28 0) (pieceNumber p) (isPiece p)
 
 -- every element is so
 abbrev pub Each : {A : Type 0} → (A → Type 0) → List A → Type 0

@@ -11,13 +11,13 @@ use Rattle.listing.proofs.parse.line_end.Statement.{statement}
 use Rattle.listing.proofs.parse.line_end.Tie as tie
 
 abbrev Inv-loop : tie.InvT-loop
-Inv-loop s at i₀ i = (at ≤ i) × (i ≤ length s) × (i + lineLength (drop i s) ≡ at + lineLength (drop at s))
+Inv-loop s at i₀ i = (at ≤ i) × (i + lineLength (drop i s) ≡ at + lineLength (drop at s))
 
 abbrev μ-loop : tie.MeasureT-loop
 μ-loop s at i₀ i = length s - i
 
 loop-holds : tie.Need-loop-holds Inv-loop μ-loop
-loop-holds c = (omega arith, omega arith, refl)
+loop-holds c = (omega arith, refl)
 
 shared-slice-read-if1 : tie.Need-shared-slice-read-if1 Inv-loop μ-loop
 shared-slice-read-if1 c = omega arith
