@@ -97,19 +97,20 @@ pub(crate) fn bad_phases(phases: &[u8]) -> bool
 
 // The pad: (3 - first phase) mod 3, or 0 without segments.
 pub fn pad_of(phases: &[u8]) -> u8
-    requires { ⌜ any phaseOver (now phases) ≡ false ⌝ }
     ensures { λ r. ⌜ r ≡ padOfPhases (now phases.entry) ⌝ }
 {
     if phases.len() == 0 {
         return 0;
     }
     let p = phases[0];
+    if 2 < p {
+        return 0;
+    }
     (3 - p) % 3
 }
 
 // 7: a pad that is not 0 where the start is complete.
 pub(crate) fn bad_pad(phases: &[u8], complete: bool) -> bool
-    requires { ⌜ any phaseOver (now phases) ≡ false ⌝ }
     ensures { λ r. ⌜ r ≡ (not (eqb (padOfPhases (now phases.entry)) 0) && complete) ⌝ }
 {
     if pad_of(phases) == 0 {

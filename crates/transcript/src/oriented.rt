@@ -2,31 +2,39 @@
 use super::Strand;
 ghost use mathlib.Core.Path.{_≡_};
 ghost use Prim.Native.Nat.{_-_, _≤_, _<_};
-ghost use Rattle.transcript.specs.Limits.{top, coordinateLimit};
+ghost use Rattle.transcript.specs.Limits.{coordinateLimit};
 ghost use Rattle.transcript.specs.Orient.{orient, orientBase};
 
 // Above every coordinate.
 const TOP: u64 = 2_000_000_000;
 
+// How far x lies below y, 0 where it does not.
+pub(crate) fn below(y: u64, x: u64) -> u64
+    ensures { λ r. ⌜ r ≡ y - x ⌝ }
+{
+    if y < x {
+        return 0;
+    }
+    y - x
+}
+
 // The first base of [s, e), oriented.
 pub fn start_of(strand: Strand, s: u64, e: u64) -> u64
-    requires { ⌜ e ≤ top ⌝ }
     ensures { λ r. ⌜ r ≡ orient strand s e .start ⌝ }
 {
     match strand {
         Strand::Plus => s,
-        Strand::Minus => TOP - e,
+        Strand::Minus => below(TOP, e),
     }
 }
 
 // Past the last base of [s, e), oriented.
 pub fn end_of(strand: Strand, s: u64, e: u64) -> u64
-    requires { ⌜ s ≤ top ⌝ }
     ensures { λ r. ⌜ r ≡ orient strand s e .end ⌝ }
 {
     match strand {
         Strand::Plus => e,
-        Strand::Minus => TOP - s,
+        Strand::Minus => below(TOP, s),
     }
 }
 

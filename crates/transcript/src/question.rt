@@ -1,11 +1,10 @@
 // What every question shares: the number of a refused admission, and the tests of 15.
 use super::Admission;
 use super::Strand;
+use super::oriented::below;
 ghost use mathlib.Core.Path.{_≡_};
 ghost use mathlib.Core.Bool.{_||_};
-ghost use Prim.Native.Nat.{_≤_};
 ghost use lib.Dec.{eqb};
-ghost use Rattle.transcript.specs.Limits.{queryLimit};
 ghost use Rattle.transcript.specs.Orient.{orientBase};
 ghost use Rattle.transcript.specs.Numbers.{admissionNumber};
 ghost use Rattle.transcript.specs.Question.{badInterval};
@@ -25,12 +24,11 @@ pub fn refusal_number(a: Admission) -> u8
 
 // A base in oriented coordinates.
 pub fn base_of(strand: Strand, p: u64) -> u64
-    requires { ⌜ p ≤ queryLimit ⌝ }
     ensures { λ r. ⌜ r ≡ orientBase strand p ⌝ }
 {
     match strand {
         Strand::Plus => p,
-        Strand::Minus => 1_999_999_999 - p,
+        Strand::Minus => below(1_999_999_999, p),
     }
 }
 

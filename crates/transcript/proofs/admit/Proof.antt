@@ -188,7 +188,7 @@ returns-7 c =
     refused (t b) 6 (omega arith) (stop _ 6 (on b from-7 (last b)) (else6 (c .before .before)) (sym (c .before .bad-phases .ensures) ∙ c .if7 .taken))
 
 bad-pad-requires : tie.Need-bad-pad-requires
-bad-pad-requires c κs = sym (c .before .bad-phases .ensures) ∙ c .if7 .left
+bad-pad-requires c κs = search needs
 
 returns-8 : tie.Need-returns-8
 returns-8 c =

@@ -71,7 +71,7 @@ returns c =
     refused (b .args .ranges) (transcript b) (window b) (b .args .call) (r .result) (omega arith) (sym (r .ensures (transcript b) (b .pre .admitted) refl))
 
 base-of-requires : tie.Need-base-of-requires
-base-of-requires c κs = within c
+base-of-requires c κs = search needs
 
 place-of-base-requires : tie.Need-place-of-base-requires
 place-of-base-requires c κs = let h = start (c .before) .pre in (h .admitted, ((h .scalars-are, h .exons-are), low c))

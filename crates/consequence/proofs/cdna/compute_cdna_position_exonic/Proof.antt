@@ -14,7 +14,7 @@ use Rattle.transcript.specs.code.Lent.{lentExons}
 use Rattle.transcript.proofs.Listed.{nowhere}
 use Rattle.locate.specs.code.Search.{Ready}
 use Rattle.locate.specs.code.Sums.{firstSum, Sums}
-use Rattle.locate.proofs.Searching.{count, end-low}
+use Rattle.locate.proofs.Searching.{count}
 use Rattle.consequence.proofs.ExonBases.{from-le, read-bases, bases-low}
 use borrow.Author.Needs.{needs}
 use Rattle.consequence.proofs.cdna.compute_cdna_position_exonic.Statement.{statement}
@@ -43,9 +43,7 @@ shared-slice-read-e : tie.Need-shared-slice-read-e
 shared-slice-read-e c = search needs
 
 start-of-requires : tie.Need-start-of-requires
-start-of-requires c κs =
-    let b = c .before .before .before .before .before in
-    end-low (b .args .strand) (now (b .args .starts)) (now (b .args .ends)) (b .pre .0) (b .args .i) (b .pre .1 .1 .0)
+start-of-requires c κs = search needs
 
 sub-d : tie.Need-sub-d
 sub-d c = on (c .before .before .before .before .before .before) from-le (c .start-of .result) (c .start-of .ensures)

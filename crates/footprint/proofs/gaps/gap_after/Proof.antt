@@ -1,6 +1,5 @@
 -- `footprint::gaps::gap_after` meets its contract.
 -- Assumes nothing.
-use Prim.Native.Nat.{_+_}
 use mathlib.Core.Path.{sym, _∙_}
 use native.Mathlib.Omega.{arith}
 use denote.Ref.{now}
@@ -26,10 +25,7 @@ shared-slice-read-e : tie.Need-shared-slice-read-e
 shared-slice-read-e c = search needs
 
 end-of-requires : tie.Need-end-of-requires
-end-of-requires c κs =
-    let b = c .before .before .before .before in
-    let m = edges-at (now (b .args .starts)) (now (b .args .ends)) (b .args .i) (b .pre .1 .0) (b .pre .0) (omega arith) in
-    omega arith
+end-of-requires c κs = search needs
 
 add-next : tie.Need-add-next
 add-next c = search needs
@@ -47,10 +43,7 @@ shared-slice-read-f : tie.Need-shared-slice-read-f
 shared-slice-read-f c = search needs
 
 start-of-requires : tie.Need-start-of-requires
-start-of-requires c κs =
-    let b = c .before .before .before .before .before .before .before in
-    let m = edges-at (now (b .args .starts)) (now (b .args .ends)) (b .args .i + 1) (b .pre .1 .0) (b .pre .0) (omega arith) in
-    omega arith
+start-of-requires c κs = search needs
 
 returns : tie.Need-returns
 returns c =

@@ -13,7 +13,7 @@ use Rattle.transcript.specs.Limits.{top, maxExons}
 use Rattle.transcript.specs.Transcript.{cdsStart, cdsEnd}
 use Rattle.transcript.specs.Orient.{interval, orient}
 use Rattle.locate.specs.code.Exonic.{Counts, counts, Countable}
-use Rattle.locate.proofs.LentTranscript.{known, ad, ready}
+use Rattle.locate.proofs.LentTranscript.{ad, ready}
 use Rattle.locate.proofs.LentIndex.{first-holding}
 use Rattle.locate.proofs.AloneFacts.{segments-low, index-low, end-high, held, without-cds, countable-alone, exonic-alone}
 use borrow.Author.Needs.{needs}
@@ -49,10 +49,10 @@ end-or-zero-requires : tie.Need-end-or-zero-requires
 end-or-zero-requires c κs = search needs
 
 start-of-requires : tie.Need-start-of-requires
-start-of-requires c κs = let b = c .before .before .before .before .before .before .before .before .before .before .before in let l = on b known (b .pre .0) .cds-end-low in let e = c .end-or-zero .ensures in omega arith
+start-of-requires c κs = search needs
 
 end-of-requires : tie.Need-end-of-requires
-end-of-requires c κs = let b = c .before .before .before .before .before .before .before .before .before .before .before .before in let l = on b known (b .pre .0) .cds-start-low in let e = c .before .before .start-or-zero .ensures in omega arith
+end-of-requires c κs = search needs
 
 -- the edges of the CDS
 edges : (c : tie.After-end-of) → let b = c .before .before .before .before .before .before .before .before .before .before .before .before .before in let g = orient (b .args .model .strand) (cdsStart (b .args .model .cds)) (cdsEnd (b .args .model .cds)) in (c .before .start-of .result ≡ g .start) × (c .end-of .result ≡ g .end)
@@ -65,7 +65,7 @@ first-index-requires : tie.Need-first-index-requires
 first-index-requires c κs = search needs
 
 pad-of-requires : tie.Need-pad-of-requires
-pad-of-requires c κs = let b = c .before .before .before .before .before .before .before .before .before .before .before .before .before .before in on b ad (b .pre .0) .over
+pad-of-requires c κs = search needs
 
 cast-pad : tie.Need-cast-pad
 cast-pad c = search needs

@@ -30,11 +30,7 @@ end-or-zero-requires : tie.Need-end-or-zero-requires
 end-or-zero-requires c κs = search needs
 
 start-of-requires : tie.Need-start-of-requires
-start-of-requires c κs =
-    let b = c .before .before .before .before .before .before .before .before .before .before .before .before in
-    let l = on b ad (b .pre .0) .cds-end in
-    let e = c .end-or-zero .ensures in
-    omega arith
+start-of-requires c κs = search needs
 
 -- the first coding base
 from : (c : tie.After-start-of) → let b = c .before .before .before .before .before .before .before .before .before .before .before .before .before in c .start-of .result ≡ orient (b .args .model .strand) (cdsStart (b .args .model .cds)) (cdsEnd (b .args .model .cds)) .start

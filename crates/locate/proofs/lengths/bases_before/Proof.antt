@@ -4,7 +4,6 @@ use Prim.Native.Nat.{ℕ, _+_, _-_}
 use mathlib.Core.Path.{_∙_, ap}
 use native.Mathlib.Omega.{arith}
 use denote.Ref.{now}
-use Rattle.locate.proofs.Searching.{end-low}
 use Rattle.locate.proofs.BasesBefore.{lengths-low, start-before, base-low, bases-are, bases-low}
 use borrow.Author.Needs.{needs}
 use Rattle.locate.proofs.lengths.bases_before.Statement.{statement}
@@ -30,9 +29,7 @@ length-before-requires c κs =
     ((r .even, r .few, omega arith), (r .edges, lengths-low (b .args .strand) (now (b .args .starts)) (now (b .args .ends)) r))
 
 start-of-requires : tie.Need-start-of-requires
-start-of-requires c κs =
-    let b = c .before .before .before .before .before in
-    end-low (b .args .strand) (now (b .args .starts)) (now (b .args .ends)) (b .pre .0) (b .args .k) (b .pre .1 .0)
+start-of-requires c κs = search needs
 
 sub-result : tie.Need-sub-result
 sub-result c =

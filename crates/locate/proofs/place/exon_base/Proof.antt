@@ -12,7 +12,7 @@ use Rattle.transcript.specs.Limits.{top, maxExons}
 use Rattle.transcript.specs.Transcript.{cdsStart, cdsEnd}
 use Rattle.transcript.specs.Orient.{interval, orient}
 use Rattle.locate.specs.code.Exonic.{Countable}
-use Rattle.locate.proofs.LentTranscript.{known, ready}
+use Rattle.locate.proofs.LentTranscript.{ready}
 use Rattle.locate.proofs.PlaceFacts.{codeCounts, pad-fits, index-low, in-reach, end-high, read-low, countable-code, exonic-code}
 use borrow.Author.Needs.{needs}
 use Rattle.locate.proofs.place.exon_base.Statement.{statement}
@@ -56,10 +56,10 @@ end-or-zero-requires : tie.Need-end-or-zero-requires
 end-or-zero-requires c κs = search needs
 
 start-of-requires : tie.Need-start-of-requires
-start-of-requires c κs = let b = c .before .before .before .before .before .before .before .before .before .before .before .before .before in let l = on b known (b .pre .0) .cds-end-low in let e = c .end-or-zero .ensures in omega arith
+start-of-requires c κs = search needs
 
 end-of-requires : tie.Need-end-of-requires
-end-of-requires c κs = let b = c .before .before .before .before .before .before .before .before .before .before .before .before .before .before in let l = on b known (b .pre .0) .cds-start-low in let e = c .before .before .start-or-zero .ensures in omega arith
+end-of-requires c κs = search needs
 
 -- the edges of the CDS
 edges : (c : tie.After-end-of) → let b = c .before .before .before .before .before .before .before .before .before .before .before .before .before .before .before in let g = orient (b .args .model .strand) (cdsStart (b .args .model .cds)) (cdsEnd (b .args .model .cds)) in (c .before .start-of .result ≡ g .start) × (c .end-of .result ≡ g .end)

@@ -1,5 +1,6 @@
 -- `locate::positions::utr5_length` meets its contract.
 -- Assumes nothing.
+use borrow.Author.Needs.{needs}
 use Prim.Native.Nat.{_≤_, _<_}
 use mathlib.Core.Path.{_≡_, _∙_, sym}
 use native.Mathlib.Omega.{arith}
@@ -9,7 +10,7 @@ use borrow.Author.Tests.{not-true, not-false}
 use Rattle.transcript.specs.code.Lent.{lentExons}
 use Rattle.transcript.proofs.Listed.{nowhere}
 use Rattle.transcript.proofs.Orient.{inside-start, inside-end}
-use Rattle.locate.proofs.Searching.{ascends, count, start-at, end-at, end-low, end-top, high}
+use Rattle.locate.proofs.Searching.{ascends, count, start-at, end-at, end-top, high}
 use Rattle.locate.proofs.Offset.{read-sum, sum-low}
 use Rattle.locate.proofs.positions.utr5_length.Statement.{statement}
 use Rattle.locate.proofs.positions.utr5_length.Tie as tie
@@ -41,9 +42,7 @@ shared-slice-read-e : tie.Need-shared-slice-read-e
 shared-slice-read-e c = let l = held (c .before .before) .0 in let e = c .before .before .before .before .before .before .pre .0 .even in omega arith
 
 start-of-requires : tie.Need-start-of-requires
-start-of-requires c κs =
-    let b = c .before .before .before .before .before .before in
-    end-low (b .args .strand) (now (b .args .starts)) (now (b .args .ends)) (b .pre .0) (b .args .first) (held (c .before .before) .0)
+start-of-requires c κs = search needs
 
 -- what `start_of` gives is the start of the exon
 starts : (c : tie.After-start-of) → let b = c .before .before .before .before .before .before .before in

@@ -38,7 +38,7 @@ kept-length : (sums after vs : List ℕ) → sums ≡ replicate 513 0 → after 
 kept-length sums after vs z e = ap length e ∙ length-sets sums 0 vs ∙ length-is sums z
 
 pad-of-requires : tie.Need-pad-of-requires
-pad-of-requires c κs = let b = c .before .before .before .before .before .before .before in on b ad (b .pre .1) .over
+pad-of-requires c κs = search needs
 
 cast-pad : tie.Need-cast-pad
 cast-pad c = search needs

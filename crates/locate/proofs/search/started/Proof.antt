@@ -6,7 +6,7 @@ use borrow.Author.Needs.{needs}
 use denote.Ref.{now}
 use lib.ListN.{length}
 use Rattle.transcript.specs.code.Lent.{lentExons}
-use Rattle.locate.proofs.Searching.{Bracket, up, down, ascends, count, start-at, end-low}
+use Rattle.locate.proofs.Searching.{Bracket, up, down, ascends, count, start-at}
 use Rattle.locate.proofs.search.started.Statement.{statement}
 use Rattle.locate.proofs.search.started.Tie as tie
 
@@ -41,9 +41,7 @@ shared-slice-read-e : tie.Need-shared-slice-read-e Inv-loop μ-loop
 shared-slice-read-e c = omega arith
 
 start-of-requires : tie.Need-start-of-requires Inv-loop μ-loop
-start-of-requires c κs =
-    let b = c .before .before .before .before .before .before in
-    end-low (b .args .strand) (now (b .args .starts)) (now (b .args .ends)) (b .pre) _ (omega arith)
+start-of-requires c κs = search needs
 
 add-lo : tie.Need-add-lo Inv-loop μ-loop
 add-lo c = omega arith

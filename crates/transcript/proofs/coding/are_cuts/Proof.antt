@@ -1,5 +1,6 @@
 -- `transcript::coding::are_cuts` meets its contract. The invariant: the segments from k on and the exons from i on decide the comparison.
 -- Assumes nothing.
+use borrow.Author.Needs.{needs}
 use borrow.Author.Tests.{not-true, not-false}
 use mathlib.Core.Path.{_≡_, refl, sym, _∙_}
 use Prim.Native.Nat.{_-_, min, max}
@@ -7,7 +8,6 @@ use native.Mathlib.Omega.{arith}
 use denote.Ref.{now}
 use lib.ListN.{length, getD}
 use Rattle.transcript.specs.Orient.{orient}
-use Rattle.transcript.proofs.Listed.{edges-at}
 use Rattle.transcript.proofs.Matched.{Matched, match-pass, match-lacks, match-differs, match-same, match-end}
 use Rattle.transcript.proofs.coding.are_cuts.Statement.{statement}
 use Rattle.transcript.proofs.coding.are_cuts.Tie as tie
@@ -32,10 +32,10 @@ here c =
     }
 
 start-of-requires : tie.Need-start-of-requires Inv-loop μ-loop
-start-of-requires c κs = let h = c .before .before .before .before .before .pre .end-low in omega arith
+start-of-requires c κs = search needs
 
 end-of-requires : tie.Need-end-of-requires Inv-loop μ-loop
-end-of-requires c κs = let h = c .before .before .before .before .before .before .pre .start-low in omega arith
+end-of-requires c κs = search needs
 
 loop-holds : tie.Need-loop-holds Inv-loop μ-loop
 loop-holds c = record { within = omega arith; some = omega arith; same = refl }
@@ -53,19 +53,13 @@ shared-slice-read-e : tie.Need-shared-slice-read-e Inv-loop μ-loop
 shared-slice-read-e c = omega arith
 
 start-of-requires-2 : tie.Need-start-of-requires-2 Inv-loop μ-loop
-start-of-requires-2 c κs =
-    let b = c .before .before .before .before .before .before .before .before .before .before .before in
-    let m = edges-at (now (b .args .starts)) (now (b .args .ends)) (c .before .before .before .loop .i) (b .pre .edges) (b .pre .even) (omega arith) in
-    omega arith
+start-of-requires-2 c κs = search needs
 
 larger-requires : tie.Need-larger-requires Inv-loop μ-loop
 larger-requires c κs = tt
 
 end-of-requires-2 : tie.Need-end-of-requires-2 Inv-loop μ-loop
-end-of-requires-2 c κs =
-    let b = c .before .before .before .before .before .before .before .before .before .before .before .before .before in
-    let m = edges-at (now (b .args .starts)) (now (b .args .ends)) (c .before .before .before .before .before .loop .i) (b .pre .edges) (b .pre .even) (omega arith) in
-    omega arith
+end-of-requires-2 c κs = search needs
 
 smaller-requires : tie.Need-smaller-requires Inv-loop μ-loop
 smaller-requires c κs = tt

@@ -6,7 +6,6 @@ use Prim.Native.Nat.{_-_}
 use native.Mathlib.Omega.{arith}
 use denote.Ref.{now}
 use lib.ListN.{getD}
-use Rattle.transcript.proofs.Listed.{edges-at}
 use borrow.Author.Needs.{needs}
 use Rattle.transcript.proofs.coding.is_cut.Statement.{statement}
 use Rattle.transcript.proofs.coding.is_cut.Tie as tie
@@ -36,10 +35,7 @@ shared-slice-read-e : tie.Need-shared-slice-read-e
 shared-slice-read-e c = search needs
 
 start-of-requires : tie.Need-start-of-requires
-start-of-requires c κs =
-    let b = c .before .before .before .before .before .before .before in
-    let m = edges-at (now (b .args .starts)) (now (b .args .ends)) (b .args .k) (b .pre .1) (b .pre .0 .1) (omega arith) in
-    omega arith
+start-of-requires c κs = search needs
 
 returns-2 : tie.Need-returns-2
 returns-2 c =
@@ -47,10 +43,7 @@ returns-2 c =
     rw (eq-eqb (getD (now (b .indexes)) (b .k) 0) (b .i) (c .before .before .before .before .if1 .left), sym (c .before .start-of .ensures), ne-eqb (c .before .start-of .result) (b .lo) (c .if2 .taken))
 
 end-of-requires : tie.Need-end-of-requires
-end-of-requires c κs =
-    let b = c .before .before .before .before .before .before .before .before .before in
-    let m = edges-at (now (b .args .starts)) (now (b .args .ends)) (b .args .k) (b .pre .1) (b .pre .0 .1) (omega arith) in
-    omega arith
+end-of-requires c κs = search needs
 
 returns-3 : tie.Need-returns-3
 returns-3 c =

@@ -9,7 +9,7 @@ use denote.Ref.{now}
 use lib.ListN.{length}
 use Rattle.transcript.specs.Transcript.{exonsOf}
 use Rattle.transcript.specs.Orient.{Interval, orientExon}
-use Rattle.transcript.proofs.Listed.{oriented-length, oriented-at, edges-at, first-at, last-at}
+use Rattle.transcript.proofs.Listed.{oriented-length, oriented-at, first-at, last-at}
 use borrow.Author.Needs.{needs}
 use Rattle.transcript.proofs.order.bad_bounds.Statement.{statement}
 use Rattle.transcript.proofs.order.bad_bounds.Tie as tie
@@ -24,10 +24,7 @@ start-of-requires : tie.Need-start-of-requires
 start-of-requires c κs = search needs
 
 start-of-requires-2 : tie.Need-start-of-requires-2
-start-of-requires-2 c κs =
-    let b = c .before .before .before .before .before in
-    let m = edges-at (now (b .args .starts)) (now (b .args .ends)) 0 (b .pre .1 .1 .0) (b .pre .0) (b .pre .1 .0) in
-    omega arith
+start-of-requires-2 c κs = search needs
 
 returns : tie.Need-returns
 returns c =
@@ -57,11 +54,7 @@ end-of-requires : tie.Need-end-of-requires
 end-of-requires c κs = search needs
 
 end-of-requires-2 : tie.Need-end-of-requires-2
-end-of-requires-2 c κs =
-    let b = c .before .before .before .before .before .before .before .before .before .before in
-    let s = b .pre .1 .0 in
-    let m = edges-at (now (b .args .starts)) (now (b .args .ends)) (length (now (b .args .starts)) - 1) (b .pre .1 .1 .0) (b .pre .0) (omega arith) in
-    omega arith
+end-of-requires-2 c κs = search needs
 
 returns-2 : tie.Need-returns-2
 returns-2 c =

@@ -1,5 +1,6 @@
 -- `transcript::order::in_order` meets its contract. The invariant: the exons from i on, after the edge, decide the order.
 -- Assumes nothing.
+use borrow.Author.Needs.{needs}
 use mathlib.Core.Path.{_≡_, refl, sym, _∙_, ap}
 use mathlib.Core.List.{map}
 use Prim.Native.Nat.{ℕ, _+_, _-_, _≤_}
@@ -9,7 +10,7 @@ use lib.ListN.{length, drop}
 use Rattle.transcript.specs.Transcript.{exonsOf}
 use Rattle.transcript.specs.Orient.{Interval, orientExon}
 use Rattle.transcript.specs.Admission.{ascending}
-use Rattle.transcript.proofs.Listed.{oriented-length, oriented-at, edges-at}
+use Rattle.transcript.proofs.Listed.{oriented-length, oriented-at}
 use Rattle.transcript.proofs.Steps.{order-stop, order-go, order-end}
 use Rattle.transcript.proofs.order.in_order.Statement.{statement}
 use Rattle.transcript.proofs.order.in_order.Tie as tie
@@ -36,10 +37,7 @@ shared-slice-read-e : tie.Need-shared-slice-read-e Inv-loop μ-loop
 shared-slice-read-e c = omega arith
 
 start-of-requires : tie.Need-start-of-requires Inv-loop μ-loop
-start-of-requires c κs =
-    let b = c .before .before .before .before .before .before in
-    let m = edges-at (now (b .args .starts)) (now (b .args .ends)) (c .before .before .before .loop .i) (b .pre .1) (b .pre .0) (omega arith) in
-    omega arith
+start-of-requires c κs = search needs
 
 returns : tie.Need-returns Inv-loop μ-loop
 returns c =
@@ -52,10 +50,7 @@ returns c =
     sym (order-stop x (l .edge) (l .i) (omega arith) (omega arith)) ∙ l .inv .1
 
 end-of-requires : tie.Need-end-of-requires Inv-loop μ-loop
-end-of-requires c κs =
-    let b = c .before .before .before .before .before .before .before .before in
-    let m = edges-at (now (b .args .starts)) (now (b .args .ends)) (c .before .before .before .before .before .loop .i) (b .pre .1) (b .pre .0) (omega arith) in
-    omega arith
+end-of-requires c κs = search needs
 
 add-i : tie.Need-add-i Inv-loop μ-loop
 add-i c = omega arith
