@@ -5,7 +5,7 @@ use mathlib.Core.Path.{_≡_, refl, sym, _∙_, ap}
 use mathlib.Core.Bool.{Bool, true, false}
 use mathlib.Core.List.{List, [], _∷_, _++_, append-assoc}
 use native.Mathlib.Omega.{arith}
-use lib.ListN.{length, length-append}
+use lib.ListN.{length, length-append, length-map}
 use lib.Dec.{eqb}
 use borrow.Author.Tests.{eq-eqb, ne-eqb}
 use Rattle.deck.specs.declared.rows.Rows.{Rows}
@@ -114,7 +114,6 @@ module _ (d pre : List ℕ) (p : Parts) (rest : List ℕ) (h : Kinds d p) (o : L
   pub block-transcript : transcriptAt (tableOf d o) (length pre) ≡ transcriptOf d p
   unfolding transcriptIn modelIn transcriptOf
   block-transcript =
-      let n : length pre + 1 + length xs - (length pre + 1) ≡ length xs = omega arith in
       let k = h .transcripts .0 .0 in
       rw (
         block-rows,
@@ -132,6 +131,6 @@ module _ (d pre : List ℕ) (p : Parts) (rest : List ℕ) (h : Kinds d p) (o : L
         exons-map d xs,
         segments-map d gs (h .segments),
         even-maps (λ i. word d i 4) (λ i. word d i 8) (markOf d) (numberOf d) xs gs,
-        n,
+        length-map xs,
         k,
       )

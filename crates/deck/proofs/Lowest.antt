@@ -1,6 +1,6 @@
 -- The lowest number that passes a test, searched from the front.
 -- Assumes nothing.
-use Prim.Native.Nat.{ℕ, suc, _+_, _-_, _<_}
+use Prim.Native.Nat.{ℕ, suc, _+_, _-_, _≤_, _<_}
 use mathlib.Core.Path.{_≡_}
 use mathlib.Core.Bool.{Bool, true, false}
 use native.Mathlib.Omega.{arith}
@@ -16,6 +16,6 @@ module _ (f : ℕ → Bool) (n i : ℕ) where
   unfolding lowest
   lowest-here l h = let e : n - i ≡ suc (n - (i + 1)) = omega arith in rw (e, h)
 
-  pub lowest-none : i ≡ n → lowest f (n - i) i ≡ i
+  pub lowest-none : n ≤ i → lowest f (n - i) i ≡ i
   unfolding lowest
   lowest-none h = let e : n - i ≡ 0 = omega arith in rw e

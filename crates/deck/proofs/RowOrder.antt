@@ -1,7 +1,7 @@
 -- The transcripts of a table, row by row.
 -- Assumes nothing.
-use Prim.Native.Nat.{ℕ, zero, suc, _+_, _-_, _≤_, _<_}
-use mathlib.Core.Path.{_≡_, refl, sym, ap}
+use Prim.Native.Nat.{ℕ, zero, suc, _+_, _-_, _≤_, _<_, min}
+use mathlib.Core.Path.{_≡_, refl, sym, _∙_, ap}
 use mathlib.Core.Bool.{Bool, true, false, cond, not}
 use mathlib.Core.List.{List, [], _∷_}
 use native.Mathlib.Omega.{arith}
@@ -70,6 +70,14 @@ rows-in-order kinds k l =
     let h = run-from kinds 3 (k + 1) in
     let bl = bounds-low kinds x (run-low kinds 3 (k + 1) (omega arith)) in
     (omega arith, bounds-from kinds x, run-from kinds 4 b, run-from kinds 5 g, run-low kinds 5 g (run-low kinds 4 b bl))
+
+-- what the code gives for a row of the table
+module _ (kinds : List ℕ) (k : ℕ) (l : k < 4096) {r : Rows} (e : r ≡ rowsAt kinds (min k 4096)) where
+  pub rows-inside : r ≡ rowsAt kinds k
+  rows-inside = e ∙ ap (rowsAt kinds) (omega arith)
+
+  pub rows-ordered : InOrder k r
+  rows-ordered = rw rows-inside (rows-in-order kinds k l)
 
 -- no more than 4096 transcripts stand in a table
 pub rows-fuel : (kinds : List ℕ) (n m k : ℕ) → 4096 ≤ n + k → 4096 ≤ m + k → rowsFrom n kinds k ≡ rowsFrom m kinds k

@@ -1,10 +1,10 @@
 -- The rows of a transcript, and its scalars from them.
 -- Assumes nothing.
-use Prim.Native.Nat.{ℕ, _+_, _-_}
+use Prim.Native.Nat.{ℕ, _+_}
 use mathlib.Core.Path.{_≡_}
 use mathlib.Core.Bool.{Bool}
 use mathlib.Core.List.{List}
-use lib.ListN.{getD}
+use lib.ListN.{length, getD}
 use Rattle.transcript.specs.declared.Strand.{Strand}
 use Rattle.transcript.specs.declared.Exon.{Exon}
 use Rattle.transcript.specs.declared.CdsBounds.{CdsBounds}
@@ -20,21 +20,23 @@ unfolding rowsAt
 rows-made kinds k ea eb eg es = rw (es, eg, eb, ea)
 
 module _ (marks ids numbers starts ends : List ℕ) (k : ℕ) (r : Rows) where
-  pub model-made : {σ : Strand} {x : Exon} {cds : CdsBounds} {complete : Bool} {s e : List ℕ} → s ≡ part (k + 1) (r .exons) starts → e ≡ part (k + 1) (r .exons) ends
-      → σ ≡ strandOf (getD marks k 0) → x ≡ txBounds σ (exonsOf s e)
-      → cds ≡ boundsBetween starts ends (r .exons) (r .bounds) → complete ≡ startComplete (getD marks k 0)
+  pub model-made : {mark id number : ℕ} {σ : Strand} {x : Exon} {cds : CdsBounds} {complete : Bool} {s e : List ℕ}
+      → mark ≡ getD marks k 0 → id ≡ getD ids k 0 → number ≡ getD numbers k 0
+      → s ≡ part (k + 1) (r .exons) starts → e ≡ part (k + 1) (r .exons) ends
+      → σ ≡ strandOf mark → x ≡ txBounds σ (exonsOf s e)
+      → cds ≡ boundsBetween starts ends (r .exons) (r .bounds) → complete ≡ startComplete mark
       → _≡_ {A = TranscriptModel} (record {
-        id = getD ids k 0;
-        chromosome = getD numbers k 0;
+        id = id;
+        chromosome = number;
         strand = σ;
-        «exon_count» = r .exons - (k + 1);
+        «exon_count» = length s;
         «tx_start» = x .«genomic_start»;
         «tx_end» = x .«genomic_end»;
         cds = cds;
         «cds_start_complete» = complete;
       }) (modelIn marks ids numbers starts ends k r)
   unfolding modelIn
-  model-made es ee ed ex ec eo = rw (ex, es, ee, ed, ec, eo)
+  model-made em ei en es ee ed ex ec eo = rw (ex, es, ee, ed, ec, eo, em, ei, en)
 
   -- a transcript lent part by part
   pub lent-in : {m : TranscriptModel} {ss es ps is gs ge us : List ℕ} → m ≡ modelIn marks ids numbers starts ends k r

@@ -23,7 +23,7 @@ ghost use Prim.Native.Nat.{_≤_};
 ghost use mathlib.Core.Path.{_≡_};
 ghost use lib.ListN.{length};
 ghost use Rattle.transcript.specs.Admission.{admissionOf};
-ghost use Rattle.deck.specs.code.Table.{InOrder, tableWasGiven, rowsFrom, admitRows, admitTable};
+ghost use Rattle.deck.specs.code.Table.{tableWasGiven, rowsFrom, admitRows, admitTable};
 ghost use Rattle.deck.specs.code.Table.{tableOf, emptyTable, deckAs, deckOf, transcriptWasGiven};
 ghost use Rattle.deck.specs.code.Reached.{InDeck};
 ghost use Rattle.deck.specs.declared.DeckAnswer.the-variants.{Refused};
@@ -38,7 +38,6 @@ fn admit_row(
     k: usize,
     rows: Rows,
 ) -> Admission
-    requires { ⌜ InOrder k rows ⌝ }
     ensures { λ r.
         let t = transcriptWasGiven marks ids numbers starts ends k rows in
         ⌜ r ≡ admissionOf t ⌝ }

@@ -1,15 +1,20 @@
 // Transcripts in the table of a deck: rows one behind the other.
+use crate::cell::id_at;
+use crate::cell::mark_at;
+use crate::cell::number_at;
+use crate::cell::word_at;
 use crate::part::exon_part;
+use crate::part::least;
 use transcript::CdsBounds;
 use transcript::Exon;
 use transcript::Strand;
 use transcript::TranscriptModel;
-ghost use Prim.Native.Nat.{_+_, _≤_, _<_};
+ghost use Prim.Native.Nat.{min};
 ghost use mathlib.Core.Path.{_≡_};
 ghost use lib.ListN.{length};
 ghost use Rattle.transcript.specs.Transcript.{exonsOf};
 ghost use Rattle.deck.specs.Deck.{strandOf, startComplete, txBounds};
-ghost use Rattle.deck.specs.code.Table.{runEnd, boundsEnd, rowsAt, InOrder, boundsBetween, modelIn};
+ghost use Rattle.deck.specs.code.Table.{runEnd, boundsEnd, rowsAt, boundsBetween, modelIn};
 
 // Where the exons of a transcript, its bounds, its segments and its selenocysteine bases end.
 pub struct Rows {
@@ -21,8 +26,7 @@ pub struct Rows {
 
 // The row behind those of a kind, from a row on.
 fn run_end(kinds: &[u8; 4096], kind: u8, from: usize) -> usize
-    requires { ⌜ from ≤ 4096 ⌝ }
-    ensures { λ r. ⌜ (r ≡ runEnd (now kinds.entry) kind from) × (from ≤ r) × (r ≤ 4096) ⌝ }
+    ensures { λ r. ⌜ r ≡ runEnd (now kinds.entry) kind from ⌝ }
 {
     let mut i = from;
     while i < 4096 {
@@ -36,10 +40,9 @@ fn run_end(kinds: &[u8; 4096], kind: u8, from: usize) -> usize
 
 // The row behind the bounds that may stand at a row.
 fn bounds_end(kinds: &[u8; 4096], at: usize) -> usize
-    requires { ⌜ at ≤ 4096 ⌝ }
-    ensures { λ r. ⌜ (r ≡ boundsEnd (now kinds.entry) at) × (at ≤ r) × (r ≤ 4096) ⌝ }
+    ensures { λ r. ⌜ r ≡ boundsEnd (now kinds.entry) at ⌝ }
 {
-    if at == 4096 {
+    if 4096 <= at {
         return at;
     }
     if kinds[at] == 2 {
@@ -48,12 +51,11 @@ fn bounds_end(kinds: &[u8; 4096], at: usize) -> usize
     at
 }
 
-// The rows of the transcript at row k.
+// The rows of the transcript at row k, which is counted as 4096 where it lies behind the table.
 pub fn rows_at(kinds: &[u8; 4096], k: usize) -> Rows
-    requires { ⌜ k < 4096 ⌝ }
-    ensures { λ r. ⌜ (r ≡ rowsAt (now kinds.entry) k) × InOrder k r ⌝ }
+    ensures { λ r. ⌜ r ≡ rowsAt (now kinds.entry) (min k 4096) ⌝ }
 {
-    let exons = run_end(kinds, 3, k + 1);
+    let exons = run_end(kinds, 3, least(k, 4096) + 1);
     let bounds = bounds_end(kinds, exons);
     let segments = run_end(kinds, 4, bounds);
     let bases = run_end(kinds, 5, segments);
@@ -107,15 +109,14 @@ fn tx_bounds(starts: &[u64], ends: &[u64], strand: Strand) -> Exon
 
 // The bounds behind the exons, if any stand there.
 fn bounds_in(starts: &[u64; 4096], ends: &[u64; 4096], exons: usize, bounds: usize) -> CdsBounds
-    requires { ⌜ (exons ≤ bounds) × (bounds ≤ 4096) ⌝ }
     ensures { λ r. ⌜ r ≡ boundsBetween (now starts.entry) (now ends.entry) exons bounds ⌝ }
 {
     if bounds == exons {
         return CdsBounds::Neither;
     }
     CdsBounds::Both {
-        cds_genomic_start: starts[exons],
-        cds_genomic_end: ends[exons],
+        cds_genomic_start: word_at(starts, exons),
+        cds_genomic_end: word_at(ends, exons),
     }
 }
 
@@ -129,18 +130,19 @@ pub fn model_in(
     k: usize,
     rows: Rows,
 ) -> TranscriptModel
-    requires { ⌜ InOrder k rows ⌝ }
     ensures { λ r. ⌜ r ≡ modelIn (now marks.entry) (now ids.entry) (now numbers.entry) (now starts.entry) (now ends.entry) k rows ⌝ }
 {
-    let mark = marks[k];
+    let mark = mark_at(marks, k);
     let strand = strand_of(mark);
-    let edges = tx_bounds(exon_part(starts, k, rows), exon_part(ends, k, rows), strand);
+    let exon_starts = exon_part(starts, k, rows);
+    let exon_ends = exon_part(ends, k, rows);
+    let edges = tx_bounds(exon_starts, exon_ends, strand);
     let cds = bounds_in(starts, ends, rows.exons, rows.bounds);
     TranscriptModel {
-        id: ids[k],
-        chromosome: numbers[k],
+        id: id_at(ids, k),
+        chromosome: number_at(numbers, k),
         strand,
-        exon_count: (rows.exons - (k + 1)) as u16,
+        exon_count: exon_starts.len() as u16,
         tx_start: edges.genomic_start,
         tx_end: edges.genomic_end,
         cds,

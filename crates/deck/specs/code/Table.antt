@@ -3,7 +3,7 @@
 use Prim.Native.Nat.{ℕ, zero, suc, _+_, _-_, _≤_, _<_}
 use mathlib.Core.Bool.{Bool, cond, not, _&&_}
 use mathlib.Core.List.{List, [], _∷_, map}
-use lib.ListN.{getD, take, drop, replicate}
+use lib.ListN.{length, getD, take, drop, replicate}
 use lib.Dec.{ltb, eqb}
 use denote.Ref.{now}
 use Rattle.common.specs.Slices.{Slice, Passed}
@@ -104,7 +104,7 @@ modelIn marks ids numbers starts ends k r = record {
   id = getD ids k 0;
   chromosome = getD numbers k 0;
   strand = strandOf (getD marks k 0);
-  «exon_count» = r .exons - (k + 1);
+  «exon_count» = length (part (k + 1) (r .exons) starts);
   «tx_start» = txBounds (strandOf (getD marks k 0)) (exonsIn starts ends k r) .«genomic_start»;
   «tx_end» = txBounds (strandOf (getD marks k 0)) (exonsIn starts ends k r) .«genomic_end»;
   cds = boundsBetween starts ends (r .exons) (r .bounds);

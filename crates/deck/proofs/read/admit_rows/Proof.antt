@@ -7,7 +7,7 @@ use denote.Ref.{now}
 use borrow.Author.Needs.{needs}
 use Rattle.deck.specs.declared.DeckTable.{DeckTable}
 use Rattle.deck.specs.code.Table.{rowsFrom, admitRows}
-use Rattle.deck.proofs.RowOrder.{rowsOn, admit-on, admit-stop, admit-none}
+use Rattle.deck.proofs.RowOrder.{rowsOn, rows-inside, rows-ordered, admit-on, admit-stop, admit-none}
 use Rattle.deck.proofs.read.admit_rows.Statement.{statement}
 use Rattle.deck.proofs.read.admit_rows.Tie as tie
 
@@ -29,10 +29,10 @@ returns : tie.Need-returns Inv-loop μ-loop
 returns c = admit-none (now (c .before .before .before .before .args .records)) (record { kinds = now (c .before .before .before .before .args .kinds); marks = now (c .before .before .before .before .args .marks); ids = now (c .before .before .before .before .args .ids); numbers = now (c .before .before .before .before .args .numbers); starts = now (c .before .before .before .before .args .starts); ends = now (c .before .before .before .before .args .ends) }) (c .before .before .before .loop .k) (λ l e. c .if1 .taken e) ∙ c .before .before .before .loop .inv .1
 
 rows-at-requires : tie.Need-rows-at-requires Inv-loop μ-loop
-rows-at-requires c κs = omega arith
+rows-at-requires c κs = search needs
 
 admit-row-requires : tie.Need-admit-row-requires Inv-loop μ-loop
-admit-row-requires c κs = c .rows-at .ensures .1
+admit-row-requires c κs = search needs
 
 enum-known-admitted : tie.Need-enum-known-admitted Inv-loop μ-loop
 enum-known-admitted c = search needs
@@ -45,19 +45,19 @@ element-copy-out-t19 c = omega arith
 
 returns-2 : tie.Need-returns-2 Inv-loop μ-loop
 returns-2 c =
-    admit-stop (now (c .before .before .before .before .before .before .before .before .before .before .args .records)) (record { kinds = now (c .before .before .before .before .before .before .before .before .before .before .args .kinds); marks = now (c .before .before .before .before .before .before .before .before .before .before .args .marks); ids = now (c .before .before .before .before .before .before .before .before .before .before .args .ids); numbers = now (c .before .before .before .before .before .before .before .before .before .before .args .numbers); starts = now (c .before .before .before .before .before .before .before .before .before .before .args .starts); ends = now (c .before .before .before .before .before .before .before .before .before .before .args .ends) }) (c .before .before .before .before .before .before .before .before .before .loop .k) (c .before .before .before .before .before .rows-at .ensures .0) (omega arith) (c .before .before .before .before .before .before .if1 .left) (sym (c .before .before .admitted .given .1) ∙ c .before .before .before .before .admit-row .ensures)
+    admit-stop (now (c .before .before .before .before .before .before .before .before .before .before .args .records)) (record { kinds = now (c .before .before .before .before .before .before .before .before .before .before .args .kinds); marks = now (c .before .before .before .before .before .before .before .before .before .before .args .marks); ids = now (c .before .before .before .before .before .before .before .before .before .before .args .ids); numbers = now (c .before .before .before .before .before .before .before .before .before .before .args .numbers); starts = now (c .before .before .before .before .before .before .before .before .before .before .args .starts); ends = now (c .before .before .before .before .before .before .before .before .before .before .args .ends) }) (c .before .before .before .before .before .before .before .before .before .loop .k) (rows-inside (now (c .before .before .before .before .before .before .before .before .before .before .args .kinds)) (c .before .before .before .before .before .before .before .before .before .loop .k) (omega arith) (c .before .before .before .before .before .rows-at .ensures)) (omega arith) (c .before .before .before .before .before .before .if1 .left) (sym (c .before .before .admitted .given .1) ∙ c .before .before .before .before .admit-row .ensures)
     ∙ c .before .before .before .before .before .before .before .before .before .loop .inv .1
 
 enum-told : tie.Need-enum-told Inv-loop μ-loop
 enum-told c = search needs
 
 loop-less : tie.Need-loop-less Inv-loop μ-loop
-loop-less c = let o = c .before .before .before .rows-at .ensures .1 in omega arith
+loop-less c = let o = rows-ordered (now (c .before .before .before .before .before .before .before .before .args .kinds)) (c .before .before .before .before .before .before .before .loop .k) (omega arith) (c .before .before .before .rows-at .ensures) in omega arith
 
 loop-again : tie.Need-loop-again Inv-loop μ-loop
 loop-again c =
-    let o = c .before .before .before .rows-at .ensures .1 in
-    (omega arith, sym (admit-on (now (c .before .before .before .before .before .before .before .before .args .records)) (record { kinds = now (c .before .before .before .before .before .before .before .before .args .kinds); marks = now (c .before .before .before .before .before .before .before .before .args .marks); ids = now (c .before .before .before .before .before .before .before .before .args .ids); numbers = now (c .before .before .before .before .before .before .before .before .args .numbers); starts = now (c .before .before .before .before .before .before .before .before .args .starts); ends = now (c .before .before .before .before .before .before .before .before .args .ends) }) (c .before .before .before .before .before .before .before .loop .k) (c .before .before .before .rows-at .ensures .0) (omega arith) (c .before .before .before .before .if1 .left) (sym (c .enum-told .given .1) ∙ c .before .before .admit-row .ensures)) ∙ c .before .before .before .before .before .before .before .loop .inv .1)
+    let o = rows-ordered (now (c .before .before .before .before .before .before .before .before .args .kinds)) (c .before .before .before .before .before .before .before .loop .k) (omega arith) (c .before .before .before .rows-at .ensures) in
+    (omega arith, sym (admit-on (now (c .before .before .before .before .before .before .before .before .args .records)) (record { kinds = now (c .before .before .before .before .before .before .before .before .args .kinds); marks = now (c .before .before .before .before .before .before .before .before .args .marks); ids = now (c .before .before .before .before .before .before .before .before .args .ids); numbers = now (c .before .before .before .before .before .before .before .before .args .numbers); starts = now (c .before .before .before .before .before .before .before .before .args .starts); ends = now (c .before .before .before .before .before .before .before .before .args .ends) }) (c .before .before .before .before .before .before .before .loop .k) (rows-inside (now (c .before .before .before .before .before .before .before .before .args .kinds)) (c .before .before .before .before .before .before .before .loop .k) (omega arith) (c .before .before .before .rows-at .ensures)) (omega arith) (c .before .before .before .before .if1 .left) (sym (c .enum-told .given .1) ∙ c .before .before .admit-row .ensures)) ∙ c .before .before .before .before .before .before .before .loop .inv .1)
 
 returns-3 : tie.Need-returns-3 Inv-loop μ-loop
 returns-3 c = admit-none (now (c .before .before .args .records)) (record { kinds = now (c .before .before .args .kinds); marks = now (c .before .before .args .marks); ids = now (c .before .before .args .ids); numbers = now (c .before .before .args .numbers); starts = now (c .before .before .args .starts); ends = now (c .before .before .args .ends) }) (c .before .loop .k) (λ l e. absurd (omega arith)) ∙ c .before .loop .inv .1

@@ -9,7 +9,7 @@ use Rattle.deck.proofs.rows.bounds_end.Statement.{statement}
 use Rattle.deck.proofs.rows.bounds_end.Tie as tie
 
 returns : tie.Need-returns
-returns c = (rw (le-ltb (c .before .args .at) 4096 (omega arith)), omega arith, omega arith)
+returns c = rw (le-ltb (c .before .args .at) 4096 (omega arith))
 
 element-copy-out-if2 : tie.Need-element-copy-out-if2
 element-copy-out-if2 c = search needs
@@ -18,10 +18,10 @@ add-result : tie.Need-add-result
 add-result c = search needs
 
 returns-2 : tie.Need-returns-2
-returns-2 c = (rw (lt-ltb (c .before .before .before .args .at) 4096 (omega arith), eq-eqb (getD (now (c .before .before .before .args .kinds)) (c .before .before .before .args .at) 0) 2 (c .if2 .taken)), omega arith, omega arith)
+returns-2 c = rw (lt-ltb (c .before .before .before .args .at) 4096 (omega arith), eq-eqb (getD (now (c .before .before .before .args .kinds)) (c .before .before .before .args .at) 0) 2 (c .if2 .taken))
 
 returns-3 : tie.Need-returns-3
-returns-3 c = (rw (lt-ltb (c .before .before .before .args .at) 4096 (omega arith), ne-eqb (getD (now (c .before .before .before .args .kinds)) (c .before .before .before .args .at) 0) 2 (c .if2 .left)), omega arith, omega arith)
+returns-3 c = rw (lt-ltb (c .before .before .before .args .at) 4096 (omega arith), ne-eqb (getD (now (c .before .before .before .args .kinds)) (c .before .before .before .args .at) 0) 2 (c .if2 .left))
 
 pub bounds-end-spec : {M : Type 1} → statement M
 bounds-end-spec = tie.close (tie.spec returns element-copy-out-if2 add-result returns-2 returns-3)

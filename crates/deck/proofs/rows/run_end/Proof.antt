@@ -1,6 +1,6 @@
 -- `deck::rows::run_end` meets its contract.
 -- Assumes nothing.
-use Prim.Native.Nat.{ℕ, _-_, _≤_}
+use Prim.Native.Nat.{ℕ, _-_}
 use mathlib.Core.Path.{_≡_, refl, sym, _∙_}
 use mathlib.Core.Bool.{Bool, not}
 use mathlib.Core.List.{List}
@@ -19,13 +19,13 @@ abbrev other : List ℕ → ℕ → ℕ → Bool
 other kinds kind i = not (eqb (getD kinds i 0) kind)
 
 abbrev Inv-loop : tie.InvT-loop
-Inv-loop kinds kind from i₀ i = (from ≤ i) × (i ≤ 4096) × (runEnd kinds kind i ≡ runEnd kinds kind from)
+Inv-loop kinds kind from i₀ i = runEnd kinds kind i ≡ runEnd kinds kind from
 
 abbrev μ-loop : tie.MeasureT-loop
 μ-loop kinds kind from i₀ i = 4096 - i
 
 loop-holds : tie.Need-loop-holds Inv-loop μ-loop
-loop-holds c = (omega arith, omega arith, refl)
+loop-holds c = refl
 
 element-copy-out-if1 : tie.Need-element-copy-out-if1 Inv-loop μ-loop
 element-copy-out-if1 c = omega arith
@@ -35,7 +35,7 @@ returns c =
     let t = now (c .before .before .before .before .args .kinds) in
     let k = c .before .before .before .before .args .kind in
     let i = c .before .before .before .loop .i in
-    (sym (lowest-here (other t k) 4096 i (omega arith) (rw (ne-eqb (getD t i 0) k (c .if1 .taken)))) ∙ c .before .before .before .loop .inv .2, omega arith, omega arith)
+    sym (lowest-here (other t k) 4096 i (omega arith) (rw (ne-eqb (getD t i 0) k (c .if1 .taken)))) ∙ c .before .before .before .loop .inv
 
 add-i : tie.Need-add-i Inv-loop μ-loop
 add-i c = omega arith
@@ -48,12 +48,12 @@ loop-again c =
     let t = now (c .before .before .before .before .args .kinds) in
     let k = c .before .before .before .before .args .kind in
     let i = c .before .before .before .loop .i in
-    (omega arith, omega arith, sym (lowest-on (other t k) 4096 i (omega arith) (rw (eq-eqb (getD t i 0) k (c .if1 .left)))) ∙ c .before .before .before .loop .inv .2)
+    sym (lowest-on (other t k) 4096 i (omega arith) (rw (eq-eqb (getD t i 0) k (c .if1 .left)))) ∙ c .before .before .before .loop .inv
 
 returns-2 : tie.Need-returns-2 Inv-loop μ-loop
 returns-2 c =
     let t = now (c .before .before .args .kinds) in
-    (sym (lowest-none (other t (c .before .before .args .kind)) 4096 (c .before .loop .i) (omega arith)) ∙ c .before .loop .inv .2, omega arith, omega arith)
+    sym (lowest-none (other t (c .before .before .args .kind)) 4096 (c .before .loop .i) (omega arith)) ∙ c .before .loop .inv
 
 pub run-end-spec : {M : Type 1} → statement M
 run-end-spec =
