@@ -34,10 +34,17 @@ rankOf e = calledRank (e .answer)
 abbrev pub listedCall : Transcript → Window → Call → Called
 listedCall t w q = annotateSnv sourceRanges t w q
 
--- one for each transcript in deck order, or 26 with id 0
+abbrev pub callEntry : Window → ℕ → Call → Transcript → Entry
+callEntry w number q t = record { number = number; id = t .model .id; answer = listedCall t w q }
+
+-- a line of another shape: 26 with id 0
+abbrev pub malformed : ℕ → Entry
+malformed number = record { number = number; id = 0; answer = Called.Refused 26 }
+
+-- one for each transcript in deck order, or the one of a malformed line
 abbrev pub callEntries : List Transcript → Window → ℕ → ParsedCall → List Entry
-callEntries ts w number (Read q) = map (λ (t : Transcript). record { number = number; id = t .model .id; answer = listedCall t w q }) ts
-callEntries ts w number Malformed = record { number = number; id = 0; answer = Called.Refused 26 } ∷ []
+callEntries ts w number (Read q) = map (callEntry w number q) ts
+callEntries ts w number Malformed = malformed number ∷ []
 
 -- those of each line of the calls; the first has the number given
 unfoldable pub entries : List Transcript → Window → ℕ → List (List ℕ) → List (List Entry)

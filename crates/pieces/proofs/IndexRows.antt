@@ -1,6 +1,6 @@
 -- The sums of an admitted transcript of a table lie between its row and the row behind it.
 -- Assumes nothing.
-use Prim.Native.Nat.{ℕ, _+_, _-_, _≤_, _<_}
+use Prim.Native.Nat.{ℕ, _+_, _-_, _≤_, _<_, min}
 use mathlib.Core.Path.{_≡_, refl, sym, _∙_, ap}
 use mathlib.Core.Bool.{Bool, true, false, cond, not}
 use mathlib.Core.List.{List}
@@ -17,8 +17,8 @@ use Rattle.transcript.specs.Admission.{admission}
 use Rattle.locate.proofs.LentTranscript.{known, count, segment-count, coding-is}
 use Rattle.deck.specs.declared.rows.Rows.{Rows}
 use Rattle.deck.specs.code.Table.{part, InOrder, modelIn, transcriptIn}
-use Rattle.indexed.specs.code.TableIndex.{cdsRow}
-use Rattle.indexed.proofs.SummedRows.{no-cds}
+use Rattle.pieces.specs.code.TableIndex.{cdsRow}
+use Rattle.pieces.proofs.SummedRows.{no-cds}
 
 part-le : (a b : ℕ) (l : List ℕ) → length (part a b l) ≤ b - a
 part-le a b l = let t = length-take (b - a) (drop a l) in omega arith
@@ -32,7 +32,7 @@ either x y true b e = rw e
 either x y false b e = rw e
 
 -- room for the sums of the exons, in front of those of the CDS
-pub exons-fit : (k : ℕ) (r : Rows) {n m : ℕ} → InOrder k r → n ≡ r .exons - (k + 1) → m ≡ 4096 → (k + n < r .exons) × (r .exons ≤ m)
+pub exons-fit : (k : ℕ) (r : Rows) {n m : ℕ} → InOrder k r → n ≡ min (r .exons) 4096 - (k + 1) → m ≡ 4096 → (k + n < r .exons) × (r .exons ≤ m)
 exons-fit k r i e f = let a = i .0 in let b = i .1 in let c = i .2 in let d = i .3 in let g = i .4 in (omega arith, omega arith)
 
 module _ (marks ids numbers starts ends : List ℕ) (k : ℕ) (r : Rows) (h : admission (transcriptIn marks ids numbers starts ends k r) ≡ 0) where

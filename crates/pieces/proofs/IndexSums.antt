@@ -16,7 +16,7 @@ use Rattle.locate.specs.Index.{cumulative}
 use Rattle.locate.specs.code.Sums.{firstSum, Sums}
 use Rattle.locate.proofs.PrefixSums.{cumulative-length}
 use Rattle.locate.proofs.Offset.{first-sum, sums-of}
-use Rattle.indexed.specs.code.TableIndex.{isAdmitted, rowSums}
+use Rattle.pieces.specs.code.TableIndex.{rowSums}
 
 -- sums of which nothing changed before row k
 pub record KeptBelow (k : ℕ) (before after : List ℕ) : Type 0 where
@@ -37,7 +37,7 @@ kept-if false p q = q
 pub kept-row : (t : Transcript) (k c : ℕ) (sums : List ℕ) → k ≤ c → KeptBelow k sums (rowSums t k c sums)
 kept-row t k c sums h =
     let e = kept-stored k k (cumulative 0 (map size (oriented t .exons))) (omega arith) (kept-all k sums) in
-    kept-if (isAdmitted t) (kept-if (oriented t .coding) (kept-stored k c (cumulative (oriented t .pad) (map size (oriented t .segments))) h e) e) (kept-all k sums)
+    kept-if (oriented t .coding) (kept-stored k c (cumulative (oriented t .pad) (map size (oriented t .segments))) h e) e
 
 -- sums that end before the row up to which all is kept
 module _ (xs : List Interval) (c row : ℕ) (s t : List ℕ) (k : KeptBelow row s t) (l : c + length xs < row) where

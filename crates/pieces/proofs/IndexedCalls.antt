@@ -12,7 +12,7 @@ use Rattle.transcript.specs.Transcript.{Transcript}
 use Rattle.consequence.specs.code.Prepared.{Summed}
 use Rattle.deck.specs.declared.rows.Rows.{Rows}
 use Rattle.deck.specs.code.Table.{InOrder}
-use Rattle.indexed.specs.code.TableIndex.{cdsRow}
+use Rattle.pieces.specs.code.TableIndex.{cdsRow}
 
 -- the sums of the CDS begin inside the table
 pub row-low : (k : ℕ) (r : Rows) → InOrder k r → cdsRow k r < 4096

@@ -3,5 +3,9 @@ pub mod SummedRows
 pub mod IndexRows
 pub mod IndexTable
 pub mod WholeIndex
+pub mod IndexedRows
 pub mod IndexedTranscript
 pub mod IndexedCalls
+pub mod Filling
+pub mod FilesJudged
+pub mod Admitting

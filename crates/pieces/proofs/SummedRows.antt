@@ -7,7 +7,6 @@ use mathlib.Core.List.{List, [], _∷_, map}
 use native.Mathlib.Omega.{arith}
 use lib.ListN.{length, drop}
 use lib.Seq.{length-sets}
-use borrow.Author.Tests.{eq-eqb}
 use Rattle.common.specs.Lists.{any}
 use Rattle.common.specs.Stored.{stored}
 use Rattle.common.proofs.TestParts.{on-test, true-false}
@@ -20,8 +19,8 @@ use Rattle.footprint.specs.ShortIntron.{isFrameshiftGap}
 use Rattle.locate.specs.Index.{cumulative}
 use Rattle.locate.specs.code.Sums.{firstSum, Sums, ExonSums}
 use Rattle.consequence.specs.code.Prepared.{Summed}
-use Rattle.indexed.specs.code.TableIndex.{rowIndex, withExons, rowSums}
-use Rattle.indexed.proofs.IndexSums.{kept-all, kept-stored, first-kept, sums-kept, sums-stored}
+use Rattle.pieces.specs.code.TableIndex.{isShort, withExons, rowSums}
+use Rattle.pieces.proofs.IndexSums.{kept-all, kept-stored, first-kept, sums-kept, sums-stored}
 
 no-sums : (xs : List Interval) (l : List ℕ) → length xs ≡ 0 → 0 < length l → firstSum l ≤ 2 → Sums xs l
 unfolding cumulative
@@ -86,5 +85,5 @@ module _ (t : Transcript) (h : admission t ≡ 0) (k c : ℕ) (l : List ℕ) (a 
         short-is = refl;
       }
 
-  pub summed-here : Summed t (drop k (rowSums t k c l)) (drop (cond (o .coding) c k) (rowSums t k c l)) (rowIndex t .short)
-  summed-here = rw (eq-eqb (admission t) 0 h) (on-test (o .coding) (λ e. rw e (with-cds e)) (λ e. rw e (alone e)))
+  pub summed-here : Summed t (drop k (rowSums t k c l)) (drop (cond (o .coding) c k) (rowSums t k c l)) (isShort t)
+  summed-here = on-test (o .coding) (λ e. rw e (with-cds e)) (λ e. rw e (alone e))

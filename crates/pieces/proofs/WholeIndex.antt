@@ -1,77 +1,84 @@
--- The index of a table, from its first row to its last.
+-- The index of a table, from its first transcript to its last.
 -- Assumes nothing.
-use Prim.Native.Nat.{ℕ, zero, suc}
-use mathlib.Core.Path.{_≡_, sym, _∙_}
+use Prim.Native.Nat.{ℕ, zero, suc, _+_, _≤_, _<_}
+use mathlib.Core.Path.{_≡_, refl, sym, _∙_}
 use mathlib.Core.Bool.{Bool, true, false}
-use mathlib.Core.List.{List}
-use lib.ListN.{getD, set, replicate, length-replicate}
+use mathlib.Core.List.{List, [], _∷_}
+use native.Mathlib.Omega.{arith}
+use native.Mathlib.Numerals.{add-one}
+use lib.ListN.{length, getD, set, replicate, length-replicate}
 use lib.Dec.{eqb, ltb}
 use borrow.Author.Tests.{eqb-true, eq-eqb, lt-ltb}
 use Rattle.common.proofs.TestParts.{on-test, and-true, true-false}
+use Rattle.transcript.specs.Admission.{admission}
 use Rattle.deck.specs.declared.DeckTable.{DeckTable}
 use Rattle.deck.specs.declared.rows.Rows.{Rows}
-use Rattle.deck.specs.code.Table.{isKind, rowsAt, rowsFrom, transcriptIn}
-use Rattle.deck.proofs.RowOrder.{rowsOn, rows-here, rows-none, row-inside}
-use Rattle.indexed.specs.declared.TableIndex.{TableIndex}
-use Rattle.indexed.specs.declared.row.RowIndex.{RowIndex}
-use Rattle.indexed.specs.code.TableIndex.{rowIndex, rowSums, indexRow, indexRows, emptyIndex, tableIndex}
-use Rattle.indexed.proofs.IndexTable.{rowsIn, IndexedAt, Indexing, indexing-more}
+use Rattle.deck.specs.code.Table.{isKind, rowsAt, rowsFrom, transcriptIn, transcriptAt}
+use Rattle.deck.proofs.RowOrder.{rowsOn, rows-here, rows-none, row-inside, rows-past}
+use Rattle.pieces.specs.declared.TableIndex.{TableIndex}
+use Rattle.pieces.specs.code.TableIndex.{Admits, AllAdmitted, isShort, rowSums, indexRow, indexRows, emptyIndex, tableIndex}
+use Rattle.pieces.proofs.IndexTable.{rowsIn, IndexedAt, Indexing, indexing-more}
 
--- the rows left begin with one at which a transcript stands
-pub index-on : (t : DeckTable) (k : ℕ) (x : TableIndex) {s : Bool} {r : Rows} {i : RowIndex} {after : List ℕ} → s ≡ isKind (t .kinds) 1 k → s ≡ true → r ≡ rowsAt (t .kinds) k
-    → i ≡ rowIndex (transcriptIn (t .marks) (t .ids) (t .numbers) (t .starts) (t .ends) k r) → after ≡ rowSums (transcriptIn (t .marks) (t .ids) (t .numbers) (t .starts) (t .ends) k r) k (r .exons) (x .sums)
-    → indexRows t (rowsOn (t .kinds) (r .bases)) (record {
-      admitted = set (x .admitted) k (i .admitted);
-      short = set (x .short) k (i .short);
-      exons = set (x .exons) k (r .exons);
-      bounds = set (x .bounds) k (r .bounds);
-      segments = set (x .segments) k (r .segments);
-      bases = set (x .bases) k (r .bases);
-      sums = after;
-    }) ≡ indexRows t (rowsOn (t .kinds) k) x
-unfolding indexRow
-index-on t k x e h er ei ea =
-    let q = and-true (ltb k 4096) (eqb (getD (t .kinds) k 0) 1) (sym e ∙ h) in
-    rw (rows-here (t .kinds) k (row-inside (t .kinds) 1 k (sym e ∙ h)) (eqb-true (getD (t .kinds) k 0) 1 (q .1)), ea, ei, er)
+-- a transcript stands at row k
+module _ (t : DeckTable) (k : ℕ) {s : Bool} (e : s ≡ isKind (t .kinds) 1 k) where
+  pub rows-on : s ≡ true → rowsOn (t .kinds) k ≡ k ∷ rowsOn (t .kinds) (rowsAt (t .kinds) k .bases)
+  rows-on h =
+      let q = and-true (ltb k 4096) (eqb (getD (t .kinds) k 0) 1) (sym e ∙ h) in
+      rows-here (t .kinds) k (row-inside (t .kinds) 1 k (sym e ∙ h)) (eqb-true (getD (t .kinds) k 0) 1 (q .1))
 
--- or none stands there
-pub index-end : (t : DeckTable) (k : ℕ) (x : TableIndex) {s : Bool} → s ≡ isKind (t .kinds) 1 k → s ≡ false → x ≡ indexRows t (rowsOn (t .kinds) k) x
-index-end t k x e h = rw (rows-none (t .kinds) k (λ l z. true-false (rw (lt-ltb k 4096 l, eq-eqb (getD (t .kinds) k 0) 1 z) at (sym e ∙ h))))
+  -- the transcripts left begin with it
+  pub index-on : (j : ℕ) (x : TableIndex) {r : Rows} {i : Bool} {after : List ℕ} → s ≡ true → r ≡ rowsAt (t .kinds) k
+      → i ≡ isShort (transcriptIn (t .marks) (t .ids) (t .numbers) (t .starts) (t .ends) k r)
+      → after ≡ rowSums (transcriptIn (t .marks) (t .ids) (t .numbers) (t .starts) (t .ends) k r) k (r .exons) (x .sums)
+      → indexRows t (j + 1) (rowsOn (t .kinds) (r .bases)) (record {
+        count = j + 1;
+        rows = set (x .rows) j k;
+        short = set (x .short) j i;
+        exons = set (x .exons) j (r .exons);
+        bounds = set (x .bounds) j (r .bounds);
+        segments = set (x .segments) j (r .segments);
+        bases = set (x .bases) j (r .bases);
+        sums = after;
+      }) ≡ indexRows t j (rowsOn (t .kinds) k) x
+  unfolding indexRow
+  index-on j x h er ei ea = rw (rows-on h, ea, ei, er, add-one)
 
--- nothing is marked at first
-none-marked : (n k : ℕ) → getD (replicate n false) k false ≡ true → ⊥
-none-marked zero k h = true-false (sym h)
-none-marked (suc n) zero h = true-false (sym h)
-none-marked (suc n) (suc k) h = none-marked n k h
+  -- what is left to admit
+  pub admits-on : s ≡ true → Admits t (rowsOn (t .kinds) k) → (admission (transcriptAt t k) ≡ 0) × Admits t (rowsOn (t .kinds) (rowsAt (t .kinds) k .bases))
+  admits-on h a = rw (rows-on h) at a
 
-indexing-none : (t : DeckTable) → Indexing t emptyIndex 0
+  -- or none stands there
+  pub index-end : (j : ℕ) (x : TableIndex) → s ≡ false → x ≡ indexRows t j (rowsOn (t .kinds) k) x
+  index-end j x h = rw (rows-none (t .kinds) k (λ l z. true-false (rw (lt-ltb k 4096 l, eq-eqb (getD (t .kinds) k 0) 1 z) at (sym e ∙ h))))
+
+indexing-none : (t : DeckTable) → Indexing t emptyIndex 0 0
 unfolding emptyIndex
 indexing-none t = record {
-  marks = length-replicate 4096 false;
+  rows = length-replicate {A = ℕ} 4096 0;
   shorts = length-replicate 4096 false;
   exons = length-replicate {A = ℕ} 4096 0;
   bounds = length-replicate {A = ℕ} 4096 0;
   segments = length-replicate {A = ℕ} 4096 0;
   bases = length-replicate {A = ℕ} 4096 0;
   sums = length-replicate {A = ℕ} 4096 0;
-  before = λ k h. absurd (none-marked 4096 k h);
-  at = λ k h. absurd (none-marked 4096 k h);
+  before = λ i h. absurd (omega arith);
+  at = λ i h. absurd (omega arith);
 }
 
--- every row that is marked as admitted is indexed
+-- every transcript is indexed
 abbrev pub TableIndexed : DeckTable → TableIndex → Type 0
-TableIndexed t x = (k : ℕ) → getD (x .admitted) k false ≡ true → IndexedAt t k (rowsIn x k) (getD (x .short) k false) (x .sums)
+TableIndexed t x = (i : ℕ) → i < x .count → IndexedAt t (getD (x .rows) i 0) (rowsIn x i) (getD (x .short) i false) (x .sums)
 
-rows-indexed : (t : DeckTable) (n k : ℕ) (x : TableIndex) → Indexing t x k → TableIndexed t (indexRows t (rowsFrom n (t .kinds) k) x)
-unfolding rowsFrom
-rows-indexed t zero k x w = w .at
-rows-indexed t (suc n) k x w = on-test (isKind (t .kinds) 1 k)
-    (λ e. rw e (rows-indexed t n (rowsAt (t .kinds) k .bases) (indexRow t k x) (indexing-more t x k w (row-inside (t .kinds) 1 k e))))
-    (λ e. rw e (w .at))
+rows-indexed : (t : DeckTable) (n j k : ℕ) (x : TableIndex) → j ≤ k → x .count ≡ j → Indexing t x j k → Admits t (rowsFrom n (t .kinds) k) → TableIndexed t (indexRows t j (rowsFrom n (t .kinds) k) x)
+unfolding rowsFrom indexRow
+rows-indexed t zero j k x l c w a = λ i h. w .at i (omega arith)
+rows-indexed t (suc n) j k x l c w a = on-test (isKind (t .kinds) 1 k)
+    (λ e. (let b = rw e at a in
+    let p = rows-past (t .kinds) k in
+    let q = row-inside (t .kinds) 1 k e in
+    rw e (rows-indexed t n (suc j) (rowsAt (t .kinds) k .bases) (indexRow t j k x) (omega arith) refl (indexing-more t x j k w q (omega arith) (b .0)) (b .1))))
+    (λ e. rw e (λ i h. w .at i (omega arith)))
 
-pub table-indexed : (t : DeckTable) → TableIndexed t (tableIndex t)
-table-indexed t = rows-indexed t 4096 0 emptyIndex (indexing-none t)
-
--- a row that is marked as admitted, with the rows read from the columns
-pub indexed-row : (t : DeckTable) (x : TableIndex) (k : ℕ) {r : Rows} → x ≡ tableIndex t → getD (x .admitted) k false ≡ true → r ≡ rowsIn x k → IndexedAt t k r (getD (x .short) k false) (x .sums)
-indexed-row t x k {r} e h q = rw q ((rw (← e) at (table-indexed t)) k h)
+pub table-indexed : (t : DeckTable) → AllAdmitted t → TableIndexed t (tableIndex t)
+unfolding emptyIndex
+table-indexed t a = rows-indexed t 4096 0 0 emptyIndex (omega arith) refl (indexing-none t) a

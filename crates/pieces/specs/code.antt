@@ -1,1 +1,3 @@
 pub mod TableIndex
+pub mod Opening
+pub mod Filling

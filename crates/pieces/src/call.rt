@@ -14,10 +14,10 @@ ghost use mathlib.Core.Path.{_≡_};
 ghost use Prim.Native.Nat.{_<_};
 ghost use lib.ListN.{getD, drop};
 ghost use Rattle.consequence.specs.Window.{windowWasGiven};
-ghost use Rattle.listing.specs.Listing.{listedCall};
+ghost use Rattle.listing.specs.Entries.{listedCall};
 ghost use Rattle.consequence.specs.code.Prepared.{Summed};
 ghost use Rattle.deck.specs.code.Table.{InOrder, transcriptGiven, transcriptWasGiven};
-ghost use Rattle.indexed.specs.code.TableIndex.{cdsRow};
+ghost use Rattle.pieces.specs.code.TableIndex.{cdsRow};
 
 fn widened(n: u16) -> usize
     ensures { λ r. ⌜ r ≡ n ⌝ }
@@ -25,7 +25,7 @@ fn widened(n: u16) -> usize
     n as usize
 }
 
-// The rows of the transcript at row k, from the columns.
+// The rows of transcript k, from the columns.
 pub(crate) fn rows_in(
     exons: &[u16; 4096],
     bounds: &[u16; 4096],

@@ -1,4 +1,4 @@
-// What is computed once for one transcript of a table.
+// What is computed once for one transcript of a table: its sums, and whether it has a short intron.
 use deck::part::base_part;
 use deck::part::exon_part;
 use deck::part::segment_exons;
@@ -8,25 +8,18 @@ use deck::rows::Rows;
 use deck::rows::model_in;
 use footprint::has_frameshift_intron;
 use locate::store_sums;
-use transcript::Admission;
 use transcript::TranscriptModel;
-use transcript::admit;
 use transcript::order::pad_of;
 ghost use mathlib.Core.Path.{_≡_};
 ghost use Prim.Native.Nat.{_+_, _≤_, _<_};
 ghost use lib.ListN.{length};
 ghost use Rattle.transcript.specs.Transcript.{given, wasGiven};
 ghost use Rattle.transcript.specs.Admission.{admission};
-ghost use Rattle.deck.specs.code.Table.{InOrder, transcriptWasGiven};
-ghost use Rattle.indexed.specs.code.TableIndex.{rowIndex, rowSums};
+ghost use Rattle.deck.specs.code.Table.{InOrder, transcriptGiven, transcriptWasGiven};
+ghost use Rattle.pieces.specs.code.TableIndex.{isShort, rowSums};
 
-// Whether the transcript at a row is admitted, and then whether it has a short intron.
-pub(crate) struct RowIndex {
-    pub(crate) admitted: bool,
-    pub(crate) short: bool,
-}
-
-// Stores the sums of an admitted transcript: of its exons from `row` on, of its CDS, if it has one, from `cds_row` on.
+// Stores the sums of an admitted transcript: of its exons from `row` on, of its CDS, if it has one, from `cds_row` on. Answers whether
+// it has a short intron.
 fn index_transcript(
     sums: &mut [u32],
     row: usize,
@@ -39,45 +32,24 @@ fn index_transcript(
     seg_starts: &[u64],
     seg_ends: &[u64],
     selenocysteine: &[u64],
-) -> RowIndex
+) -> bool
     requires { let t = given model «exon_starts» «exon_ends» «seg_phases» «seg_exons» «seg_starts» «seg_ends» selenocysteine in
-        ⌜ (row + length (now «exon_starts») < «cds_row») × («cds_row» ≤ length (now sums)) ⌝
-        ∗ ⌜ (admission t ≡ 0 → 0 < length (now «seg_starts») → «cds_row» + length (now «seg_starts») < length (now sums)) ⌝ }
+        ⌜ admission t ≡ 0 ⌝
+        ∗ ⌜ (row + length (now «exon_starts») < «cds_row») × («cds_row» ≤ length (now sums)) ⌝
+        ∗ ⌜ (0 < length (now «seg_starts») → «cds_row» + length (now «seg_starts») < length (now sums)) ⌝ }
     ensures { λ r.
         let t = wasGiven model «exon_starts» «exon_ends» «seg_phases» «seg_exons» «seg_starts» «seg_ends» selenocysteine in
-        ⌜ (r ≡ rowIndex t) × (now sums.exit ≡ rowSums t row «cds_row» (now sums.entry)) ⌝ }
+        ⌜ (r ≡ isShort t) × (now sums.exit ≡ rowSums t row «cds_row» (now sums.entry)) ⌝ }
 {
-    let admission = admit(
-        model,
-        exon_starts,
-        exon_ends,
-        seg_phases,
-        seg_exons,
-        seg_starts,
-        seg_ends,
-        selenocysteine,
-    );
-    let Admission::Admitted = admission else {
-        return RowIndex {
-            admitted: false,
-            short: false,
-        };
-    };
     let strand = model.strand;
     let short = has_frameshift_intron(exon_starts, exon_ends, strand);
     store_sums(sums, row, exon_starts, exon_ends, 0);
     if seg_starts.len() == 0 {
-        return RowIndex {
-            admitted: true,
-            short,
-        };
+        return short;
     }
     let pad = pad_of(seg_phases) as u32;
     store_sums(sums, cds_row, seg_starts, seg_ends, pad);
-    RowIndex {
-        admitted: true,
-        short,
-    }
+    short
 }
 
 // The same of the transcript at a row of the table.
@@ -90,12 +62,13 @@ pub(crate) fn index_row(
     row: usize,
     rows: Rows,
     sums: &mut [u32],
-) -> RowIndex
+) -> bool
     requires { ⌜ InOrder row rows ⌝ }
+    requires { ⌜ admission (transcriptGiven marks ids numbers starts ends row rows) ≡ 0 ⌝ }
     requires { ⌜ length (now sums) ≡ 4096 ⌝ }
     ensures { λ r.
         let t = transcriptWasGiven marks ids numbers starts ends row rows in
-        ⌜ (r ≡ rowIndex t) × (now sums.exit ≡ rowSums t row (rows .exons) (now sums.entry)) ⌝ }
+        ⌜ (r ≡ isShort t) × (now sums.exit ≡ rowSums t row (rows .exons) (now sums.entry)) ⌝ }
 {
     index_transcript(
         sums,

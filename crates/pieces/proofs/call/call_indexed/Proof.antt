@@ -1,4 +1,4 @@
--- `indexed::call::call_indexed` meets its contract.
+-- `pieces::call::call_indexed` meets its contract.
 -- Assumes nothing.
 use mathlib.Core.Path.{_≡_, _∙_, ap}
 use Prim.Native.Nat.{ℕ}
@@ -7,11 +7,11 @@ use lib.ListN.{drop}
 use Rattle.transcript.specs.Transcript.{lent}
 use Rattle.deck.specs.code.Table.{transcriptIn}
 use Rattle.deck.proofs.Runs.{lent-in}
-use Rattle.indexed.proofs.IndexedCalls.{row-low, summed-as}
+use Rattle.pieces.proofs.IndexedCalls.{row-low, summed-as}
 use native.Mathlib.Omega.{arith}
 use borrow.Author.Needs.{needs}
-use Rattle.indexed.proofs.call.call_indexed.Statement.{statement}
-use Rattle.indexed.proofs.call.call_indexed.Tie as tie
+use Rattle.pieces.proofs.call.call_indexed.Statement.{statement}
+use Rattle.pieces.proofs.call.call_indexed.Tie as tie
 
 -- the transcript, from the parts that are lent
 is-lent : (c : tie.After-base-part) → let a = c .before .before .before .before .before .before .before .before .before .before .args in

@@ -1,9 +1,9 @@
--- `indexed::call::cds_row` meets its contract.
+-- `pieces::call::cds_row` meets its contract.
 -- Assumes nothing.
 use native.Mathlib.Omega.{arith}
 use borrow.Author.Tests.{eq-eqb, ne-eqb}
-use Rattle.indexed.proofs.call.cds_row.Statement.{statement}
-use Rattle.indexed.proofs.call.cds_row.Tie as tie
+use Rattle.pieces.proofs.call.cds_row.Statement.{statement}
+use Rattle.pieces.proofs.call.cds_row.Tie as tie
 
 returns : tie.Need-returns
 returns c = let a = c .before .before .args in rw (eq-eqb (a .rows .bounds) (a .rows .exons) (omega arith))

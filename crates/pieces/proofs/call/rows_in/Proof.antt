@@ -1,8 +1,8 @@
--- `indexed::call::rows_in` meets its contract.
+-- `pieces::call::rows_in` meets its contract.
 -- Assumes nothing.
 use borrow.Author.Needs.{needs}
-use Rattle.indexed.proofs.call.rows_in.Statement.{statement}
-use Rattle.indexed.proofs.call.rows_in.Tie as tie
+use Rattle.pieces.proofs.call.rows_in.Statement.{statement}
+use Rattle.pieces.proofs.call.rows_in.Tie as tie
 
 mul-widened : tie.Need-mul-widened
 mul-widened c = search needs

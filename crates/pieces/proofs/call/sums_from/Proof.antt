@@ -1,4 +1,4 @@
--- `indexed::call::sums_from` meets its contract.
+-- `pieces::call::sums_from` meets its contract.
 -- Assumes nothing.
 use Prim.Native.Nat.{_-_}
 use native.Mathlib.Omega.{arith}
@@ -6,8 +6,8 @@ use denote.Ref.{now}
 use lib.ListN.{length, drop, length-drop}
 use lib.Seq.{take-all}
 use borrow.Author.Needs.{needs}
-use Rattle.indexed.proofs.call.sums_from.Statement.{statement}
-use Rattle.indexed.proofs.call.sums_from.Tie as tie
+use Rattle.pieces.proofs.call.sums_from.Statement.{statement}
+use Rattle.pieces.proofs.call.sums_from.Tie as tie
 
 mul-result : tie.Need-mul-result
 mul-result c = search needs

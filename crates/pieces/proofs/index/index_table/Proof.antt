@@ -1,24 +1,25 @@
--- `indexed::index::index_table` meets its contract.
+-- `pieces::index::index_table` meets its contract.
 -- Assumes nothing.
-use mathlib.Core.Path.{_≡_, refl, sym, _∙_}
+use Prim.Native.Nat.{ℕ, _-_, _≤_, _<_, min}
+use mathlib.Core.Path.{_≡_, refl, sym, _∙_, ap}
 use native.Mathlib.Omega.{arith}
 use denote.Ref.{now}
 use lib.ListN.{length, length-replicate}
 use Rattle.deck.specs.declared.DeckTable.{DeckTable}
-use Rattle.deck.proofs.RowOrder.{rowsOn, row-inside}
-use Rattle.indexed.specs.code.TableIndex.{indexRows, emptyIndex, tableIndex}
-use Prim.Native.Nat.{ℕ, _-_, _<_}
-use Rattle.indexed.proofs.WholeIndex.{index-on, index-end}
-use Rattle.indexed.proofs.index.index_table.Statement.{statement}
-use Rattle.indexed.proofs.index.index_table.Tie as tie
+use Rattle.deck.specs.code.Table.{rowsAt, InOrder}
+use Rattle.deck.proofs.RowOrder.{rowsOn, row-inside, rows-in-order}
+use Rattle.pieces.specs.code.TableIndex.{Admits, indexRows, emptyIndex, tableIndex}
+use Rattle.pieces.proofs.WholeIndex.{index-on, admits-on, index-end}
+use Rattle.pieces.proofs.index.index_table.Statement.{statement}
+use Rattle.pieces.proofs.index.index_table.Tie as tie
 
 abbrev Inv-loop : tie.InvT-loop
-Inv-loop kinds marks ids numbers starts ends admitted₀ short₀ exons₀ bounds₀ segments₀ bases₀ sums₀ row₀ admitted short exons bounds segments bases sums row =
+Inv-loop kinds marks ids numbers starts ends table-rows₀ short₀ exons₀ bounds₀ segments₀ bases₀ sums₀ count₀ row₀ table-rows short exons bounds segments bases sums count row =
     let t : DeckTable = record { kinds = kinds; marks = marks; ids = ids; numbers = numbers; starts = starts; ends = ends } in
-    (length sums ≡ 4096) × (indexRows t (rowsOn kinds row) (record { admitted = admitted; short = short; exons = exons; bounds = bounds; segments = segments; bases = bases; sums = sums }) ≡ tableIndex t)
+    (length sums ≡ 4096) × (count ≤ row) × Admits t (rowsOn kinds row) × (indexRows t count (rowsOn kinds row) (record { count = count; rows = table-rows; short = short; exons = exons; bounds = bounds; segments = segments; bases = bases; sums = sums }) ≡ tableIndex t)
 
 abbrev μ-loop : tie.MeasureT-loop
-μ-loop kinds marks ids numbers starts ends admitted₀ short₀ exons₀ bounds₀ segments₀ bases₀ sums₀ row₀ admitted short exons bounds segments bases sums row =
+μ-loop kinds marks ids numbers starts ends table-rows₀ short₀ exons₀ bounds₀ segments₀ bases₀ sums₀ count₀ row₀ table-rows short exons bounds segments bases sums count row =
     4096 - row
 
 abbrev table : tie.Start Inv-loop μ-loop → DeckTable
@@ -31,83 +32,113 @@ table s = record {
   ends = now (s .args .ends);
 }
 
--- a row at which a transcript stands lies in the table
+-- a row at which a transcript stands lies in the table, and so does the transcript's place
 low : (c : tie.Then1 Inv-loop μ-loop) → c .before .before .loop .row < 4096
 low c = row-inside (now (c .before .before .before .args .kinds)) 1 (c .before .before .loop .row) (sym (c .before .is-transcript .ensures) ∙ c .if1 .taken)
 
+few : (c : tie.Then1 Inv-loop μ-loop) → c .before .before .loop .count < 4096
+few c = let l = low c in let i = c .before .before .loop .inv .1 in omega arith
+
+-- the rows of that transcript, and that it is admitted
+at : (c : tie.After-rows-at Inv-loop μ-loop) → (c .rows-at .result ≡ rowsAt (now (c .before .before .before .before .args .kinds)) (c .before .before .before .loop .row)) × InOrder (c .before .before .before .loop .row) (c .rows-at .result)
+at c =
+    let k = c .before .before .before .loop .row in
+    let ks = now (c .before .before .before .before .args .kinds) in
+    let l = low (c .before) in
+    let n : min k 4096 ≡ k = omega arith in
+    let e = c .rows-at .ensures ∙ ap (rowsAt ks) n in
+    (e, rw e (rows-in-order ks k l))
+
+
 loop-holds : tie.Need-loop-holds Inv-loop μ-loop
 unfolding emptyIndex
-loop-holds c = (length-replicate {A = ℕ} 4096 0, refl)
+loop-holds c = (length-replicate {A = ℕ} 4096 0, omega arith, c .pre, refl)
 
 is-transcript-requires : tie.Need-is-transcript-requires Inv-loop μ-loop
 is-transcript-requires c κs = tt
 
 rows-at-requires : tie.Need-rows-at-requires Inv-loop μ-loop
-rows-at-requires c κs = low c
+rows-at-requires c κs = tt
 
 slice-aggregate-index-row : tie.Need-slice-aggregate-index-row Inv-loop μ-loop
 slice-aggregate-index-row c = sym (c .before .before .before .before .loop .inv .0)
 
 index-row-requires : tie.Need-index-row-requires Inv-loop μ-loop
-index-row-requires c κs = (c .before .rows-at .ensures .1, c .before .before .before .before .loop .inv .0)
-
-array-write-admitted : tie.Need-array-write-admitted Inv-loop μ-loop
-array-write-admitted c = low (c .before .before .before .before)
+index-row-requires c κs =
+    let l = c .before .before .before .before .loop in
+    let x = at (c .before) in
+    let h = admits-on (table (c .before .before .before .before .before)) (l .row) (c .before .before .before .is-transcript .ensures) (c .before .before .if1 .taken) (l .inv .2) in
+    (x .1, (rw (x .0) (h .0), l .inv .0))
 
 array-write-short : tie.Need-array-write-short Inv-loop μ-loop
-array-write-short c = low (c .before .before .before .before)
+array-write-short c = few (c .before .before .before .before)
+
+cast-table-rows : tie.Need-cast-table-rows Inv-loop μ-loop
+cast-table-rows c = let k = low (c .before .before .before .before) in omega arith
+
+mul-table-rows : tie.Need-mul-table-rows Inv-loop μ-loop
+mul-table-rows c = let k = few (c .before .before .before .before) in omega arith
+
+array-write-table-rows : tie.Need-array-write-table-rows Inv-loop μ-loop
+array-write-table-rows c = few (c .before .before .before .before)
 
 cast-exons : tie.Need-cast-exons Inv-loop μ-loop
-cast-exons c = let i = c .before .before .before .before .rows-at .ensures .1 in let f1 = i .1 in let f2 = i .2 in let f3 = i .3 in let f4 = i .4 in omega arith
+cast-exons c = let i = at (c .before .before .before .before) .1 in let f0 = i .0 in let f1 = i .1 in let f2 = i .2 in let f3 = i .3 in let f4 = i .4 in omega arith
 
 mul-exons : tie.Need-mul-exons Inv-loop μ-loop
-mul-exons c = let k = low (c .before .before .before .before .before) in omega arith
+mul-exons c = let k = few (c .before .before .before .before .before) in omega arith
 
 array-write-exons : tie.Need-array-write-exons Inv-loop μ-loop
-array-write-exons c = low (c .before .before .before .before .before)
+array-write-exons c = few (c .before .before .before .before .before)
 
 cast-bounds : tie.Need-cast-bounds Inv-loop μ-loop
-cast-bounds c = let i = c .before .before .before .before .before .rows-at .ensures .1 in let f2 = i .2 in let f3 = i .3 in let f4 = i .4 in omega arith
+cast-bounds c = let i = at (c .before .before .before .before .before) .1 in let f0 = i .0 in let f1 = i .1 in let f2 = i .2 in let f3 = i .3 in let f4 = i .4 in omega arith
 
 mul-bounds : tie.Need-mul-bounds Inv-loop μ-loop
-mul-bounds c = let k = low (c .before .before .before .before .before .before) in omega arith
+mul-bounds c = let k = few (c .before .before .before .before .before .before) in omega arith
 
 array-write-bounds : tie.Need-array-write-bounds Inv-loop μ-loop
-array-write-bounds c = low (c .before .before .before .before .before .before)
+array-write-bounds c = few (c .before .before .before .before .before .before)
 
 cast-segments : tie.Need-cast-segments Inv-loop μ-loop
-cast-segments c = let i = c .before .before .before .before .before .before .rows-at .ensures .1 in let f3 = i .3 in let f4 = i .4 in omega arith
+cast-segments c = let i = at (c .before .before .before .before .before .before) .1 in let f0 = i .0 in let f1 = i .1 in let f2 = i .2 in let f3 = i .3 in let f4 = i .4 in omega arith
 
 mul-segments : tie.Need-mul-segments Inv-loop μ-loop
-mul-segments c = let k = low (c .before .before .before .before .before .before .before) in omega arith
+mul-segments c = let k = few (c .before .before .before .before .before .before .before) in omega arith
 
 array-write-segments : tie.Need-array-write-segments Inv-loop μ-loop
-array-write-segments c = low (c .before .before .before .before .before .before .before)
+array-write-segments c = few (c .before .before .before .before .before .before .before)
 
 cast-bases : tie.Need-cast-bases Inv-loop μ-loop
-cast-bases c = let i = c .before .before .before .before .before .before .before .rows-at .ensures .1 in let f4 = i .4 in omega arith
+cast-bases c = let i = at (c .before .before .before .before .before .before .before) .1 in let f0 = i .0 in let f1 = i .1 in let f2 = i .2 in let f3 = i .3 in let f4 = i .4 in omega arith
 
 mul-bases : tie.Need-mul-bases Inv-loop μ-loop
-mul-bases c = let k = low (c .before .before .before .before .before .before .before .before) in omega arith
+mul-bases c = let k = few (c .before .before .before .before .before .before .before .before) in omega arith
 
 array-write-bases : tie.Need-array-write-bases Inv-loop μ-loop
-array-write-bases c = low (c .before .before .before .before .before .before .before .before)
+array-write-bases c = few (c .before .before .before .before .before .before .before .before)
+
+add-count : tie.Need-add-count Inv-loop μ-loop
+add-count c = let k = few (c .before .before .before .before .before .before .before .before) in omega arith
 
 loop-less : tie.Need-loop-less Inv-loop μ-loop
-loop-less c = let i = c .before .before .before .before .before .before .before .rows-at .ensures .1 in let f = i .0 in let g = i .1 in let h = i .2 in let j = i .3 in let k = low (c .before .before .before .before .before .before .before .before) in omega arith
+loop-less c = let i = at (c .before .before .before .before .before .before .before) .1 in let f = i .0 in let g = i .1 in let h = i .2 in let j = i .3 in let k = low (c .before .before .before .before .before .before .before .before) in omega arith
 
 loop-again : tie.Need-loop-again Inv-loop μ-loop
 loop-again c =
     let l = c .before .before .before .before .before .before .before .before .before .before .loop in
     let w = c .before .before .before .before .before .before .before .before in
-    let r = c .before .before .before .before .before .before .before .rows-at in
+    let r = at (c .before .before .before .before .before .before .before) in
     let x = c .before .before .before .before .before .index-row in
-    (x .kept .1 .1 .1 .1 .1 .1 .1 .0 ∙ l .inv .0, index-on (table (c .before .before .before .before .before .before .before .before .before .before .before)) (l .row) (record { admitted = l .admitted; short = l .short; exons = l .exons; bounds = l .bounds; segments = l .segments; bases = l .bases; sums = l .sums }) (w .before .is-transcript .ensures) (w .if1 .taken) (r .ensures .0) (x .ensures .0) (x .ensures .1) ∙ l .inv .1)
+    let t = table (c .before .before .before .before .before .before .before .before .before .before .before) in
+    let i = r .1 in let f = i .0 in let g = i .1 in let h = i .2 in let j = i .3 in let k = l .inv .1 in
+    let o = admits-on t (l .row) (w .before .is-transcript .ensures) (w .if1 .taken) (l .inv .2) in
+    (x .kept .1 .1 .1 .1 .1 .1 .1 .0 ∙ l .inv .0, omega arith, rw (r .0) (o .1), index-on t (l .row) (w .before .is-transcript .ensures) (l .count) (record { count = l .count; rows = l .table-rows; short = l .short; exons = l .exons; bounds = l .bounds; segments = l .segments; bases = l .bases; sums = l .sums }) (w .if1 .taken) (r .0) (x .ensures .0) (x .ensures .1) ∙ l .inv .3)
 
 returns : tie.Need-returns Inv-loop μ-loop
 returns c =
     let l = c .before .before .loop in
-    index-end (table (c .before .before .before)) (l .row) (record { admitted = l .admitted; short = l .short; exons = l .exons; bounds = l .bounds; segments = l .segments; bases = l .bases; sums = l .sums }) (c .before .is-transcript .ensures) (c .if1 .left) ∙ l .inv .1
+    index-end (table (c .before .before .before)) (l .row) (c .before .is-transcript .ensures) (l .count) (record { count = l .count; rows = l .table-rows; short = l .short; exons = l .exons; bounds = l .bounds; segments = l .segments; bases = l .bases; sums = l .sums }) (c .if1 .left) ∙ l .inv .3
 
 pub index-table-spec : {M : Type 1} → statement M
 index-table-spec =
@@ -120,8 +151,10 @@ index-table-spec =
     rows-at-requires
     slice-aggregate-index-row
     index-row-requires
-    array-write-admitted
     array-write-short
+    cast-table-rows
+    mul-table-rows
+    array-write-table-rows
     cast-exons
     mul-exons
     array-write-exons
@@ -134,6 +167,7 @@ index-table-spec =
     cast-bases
     mul-bases
     array-write-bases
+    add-count
     loop-less
     loop-again
     returns)

@@ -1,14 +1,14 @@
--- `indexed::row::index_row` meets its contract.
+-- `pieces::row::index_row` meets its contract.
 -- Assumes nothing.
 use mathlib.Core.Path.{_≡_}
 use denote.Ref.{now}
 use Rattle.transcript.specs.Transcript.{lent}
 use Rattle.deck.specs.code.Table.{transcriptIn}
 use Rattle.deck.proofs.Runs.{lent-in}
-use Rattle.indexed.proofs.IndexRows.{exons-fit, segments-fit}
+use Rattle.pieces.proofs.IndexRows.{exons-fit, segments-fit}
 use borrow.Author.Needs.{needs}
-use Rattle.indexed.proofs.row.index_row.Statement.{statement}
-use Rattle.indexed.proofs.row.index_row.Tie as tie
+use Rattle.pieces.proofs.row.index_row.Statement.{statement}
+use Rattle.pieces.proofs.row.index_row.Tie as tie
 
 -- the transcript, from the parts that are lent
 is-lent : (c : tie.After-base-part) → let a = c .before .before .before .before .before .before .before .before .before .before .args in
@@ -47,8 +47,9 @@ index-transcript-requires : tie.Need-index-transcript-requires
 index-transcript-requires c κs =
     let b = c .before .before .before .before .before .before .before .before .before .before in
     let a = b .args in (
-      exons-fit (a .row) (a .rows) (b .pre .0) (c .before .before .before .before .before .before .exon-part .ensures .1) (b .pre .1),
-      segments-fit (now (a .marks)) (now (a .ids)) (now (a .numbers)) (now (a .starts)) (now (a .ends)) (a .row) (a .rows) (is-lent c) (c .before .before .segment-part .ensures) (b .pre .0) (b .pre .1),
+      rw (is-lent c) (b .pre .1 .0),
+      (exons-fit (a .row) (a .rows) (b .pre .0) (c .before .before .before .before .before .before .exon-part .ensures .1) (b .pre .1 .1),
+      segments-fit (now (a .marks)) (now (a .ids)) (now (a .numbers)) (now (a .starts)) (now (a .ends)) (a .row) (a .rows) (is-lent c) (c .before .before .segment-part .ensures) (b .pre .0) (b .pre .1 .1) (rw (is-lent c) (b .pre .1 .0))),
     )
 
 same-length : tie.Need-same-length
