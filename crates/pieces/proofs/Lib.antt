@@ -9,3 +9,4 @@ pub mod IndexedCalls
 pub mod Filling
 pub mod FilesJudged
 pub mod Admitting
+pub mod Entries

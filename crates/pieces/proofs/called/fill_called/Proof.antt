@@ -1,76 +1,126 @@
+-- `pieces::called::fill_called` meets its contract.
+-- Assumes nothing.
+use Prim.Native.Nat.{ℕ, _+_, _-_, _≤_, _<_}
+use mathlib.Core.Path.{_≡_, _∙_}
+use mathlib.Core.List.{List}
+use native.Mathlib.Omega.{arith}
+use denote.Ref.{now}
+use lib.ListN.{length, drop}
+use borrow.Author.Needs.{needs}
+use borrow.Rule.Slice.PartMut.{same-len-mid}
+use Rattle.consequence.specs.declared.Call.{Call}
+use Rattle.consequence.specs.Window.{Window}
+use Rattle.deck.specs.declared.DeckTable.{DeckTable}
+use Rattle.deck.specs.code.Table.{tableTranscripts}
+use Rattle.listing.specs.declared.ParsedCall.the-variants.{Read}
+use Rattle.listing.specs.Entries.{callEntries}
+use Rattle.listing.specs.Pieces.{Step, callSteps, pack}
+use Rattle.pieces.specs.declared.TableIndex.{TableIndex}
+use Rattle.pieces.proofs.Filling.{Filling, filling-none, filling-length, filling-low, filling-end}
+use Rattle.pieces.proofs.Entries.{steps-end, entry-put, entry-left}
 use Rattle.pieces.proofs.called.fill_called.Statement.{statement}
 use Rattle.pieces.proofs.called.fill_called.Tie as tie
-use Rattle.pieces.proofs.called.fill_called.Reads as reads
-use Rattle.pieces.proofs.called.fill_called.Lts as lts
-use Rattle.pieces.proofs.called.write_entry.Reads as write-entry-reads
+
+-- the lines of a call from an entry on
+abbrev steps : DeckTable → Window → ℕ → Call → ℕ → ℕ → List Step
+steps t w number q at k = callSteps at k (drop k (callEntries (tableTranscripts t) w number (Read q)))
 
 abbrev Inv-loop : tie.InvT-loop
 Inv-loop window-chromosome window-first window kinds marks ids numbers starts ends count rows short exons bounds segments bases sums call number out₀ at entry₀ filled₀ out entry filled =
-    ?
+    Filling out₀ out filled (steps (record { kinds = kinds; marks = marks; ids = ids; numbers = numbers; starts = starts; ends = ends }) (record { chromosome = window-chromosome; first = window-first; bytes = window }) number call at entry) (pack (length out₀) (steps (record { kinds = kinds; marks = marks; ids = ids; numbers = numbers; starts = starts; ends = ends }) (record { chromosome = window-chromosome; first = window-first; bytes = window }) number call at entry₀))
 
 abbrev μ-loop : tie.MeasureT-loop
 μ-loop window-chromosome window-first window kinds marks ids numbers starts ends count rows short exons bounds segments bases sums call number out₀ at entry₀ filled₀ out entry filled =
-    ?
+    count - entry
 
--- src/called.rt:112:5
+abbrev table : tie.Start Inv-loop μ-loop → DeckTable
+table b = record {
+  kinds = now (b .args .kinds);
+  marks = now (b .args .marks);
+  ids = now (b .args .ids);
+  numbers = now (b .args .numbers);
+  starts = now (b .args .starts);
+  ends = now (b .args .ends);
+}
+
+abbrev index : tie.Start Inv-loop μ-loop → TableIndex
+index b = record {
+  count = b .args .count;
+  rows = now (b .args .rows);
+  short = now (b .args .short);
+  exons = now (b .args .exons);
+  bounds = now (b .args .bounds);
+  segments = now (b .args .segments);
+  bases = now (b .args .bases);
+  sums = now (b .args .sums);
+}
+
+abbrev window : tie.Start Inv-loop μ-loop → Window
+window b = record { chromosome = b .args .window-chromosome; first = b .args .window-first; bytes = now (b .args .window) }
+
 loop-holds : tie.Need-loop-holds Inv-loop μ-loop
-loop-holds c = ?
+loop-holds c = let a = c .before .before .args in filling-none (now (a .out)) (steps (table (c .before .before)) (window (c .before .before)) (a .number) (a .call) (a .cursor .at) (a .cursor .entry))
 
--- src/called.rt:134:13
 sub-write-entry : tie.Need-sub-write-entry Inv-loop μ-loop
-sub-write-entry c = ?
+sub-write-entry c = filling-low (c .before .loop .inv)
 
--- src/called.rt:134:13
 part-write-entry-start : tie.Need-part-write-entry-start Inv-loop μ-loop
-part-write-entry-start c = ?
+part-write-entry-start c = let h = filling-low (c .before .loop .inv) in omega arith
 
--- src/called.rt:134:13
 part-write-entry-end : tie.Need-part-write-entry-end Inv-loop μ-loop
-part-write-entry-end c = ?
+part-write-entry-end c = omega arith
 
--- src/called.rt:113:13
 write-entry-requires : tie.Need-write-entry-requires Inv-loop μ-loop
-write-entry-requires c κs = ?
+write-entry-requires c κs = let b = c .before .before .before .before .before in (b .pre .0, (b .pre .1, omega arith))
 
--- src/called.rt:136:28
 enum-known-written : tie.Need-enum-known-written Inv-loop μ-loop
-enum-known-written c = ?
+enum-known-written c = search needs
 
--- src/called.rt:139:34
 enum-told : tie.Need-enum-told Inv-loop μ-loop
-enum-told c = ?
+enum-told c = search needs
 
--- src/called.rt:137:13
 same-length : tie.Need-same-length Inv-loop μ-loop
-same-length c = ?
+same-length c =
+    let l = c .before .before .before .before .before .before .before .loop in
+    let e = c .before .before .before .before .write-entry in
+    same-len-mid (l .filled) (length (l .out) - l .filled) (l .out) (e .last .1 .1 .1 .1 .1 .1 .1 .1 .1 .1 .1 .1 .1 .1 .1 .1 .1 .1 .1 .1 .0) (e .kept .1 .1 .1 .1 .1 .1 .1 .1 .1 .1 .1 .1 .1 .1 .1 .1 .1 .1 .1 .1 .0) ∙ filling-length (l .inv)
 
--- src/called.rt:137:13
 returns : tie.Need-returns Inv-loop μ-loop
-returns c = ?
+returns c =
+    let l = c .before .before .before .before .before .before .before .loop in
+    let e = c .before .before .before .before .write-entry in
+    entry-left (table (c .before .before .before .before .before .before .before .before .before .before)) (index (c .before .before .before .before .before .before .before .before .before .before)) (c .before .before .before .before .before .before .before .before .before .before .pre .1) (window (c .before .before .before .before .before .before .before .before .before .before)) (c .before .before .before .before .before .before .before .before .before .before .args .number) (c .before .before .before .before .before .before .before .before .before .before .args .call) (c .before .before .before .before .before .before .before .before .before .before .args .cursor .at) (l .entry) (omega arith) (l .inv) (e .ensures .0) (e .ensures .1) (c .enum-told .given .1)
 
--- src/called.rt:142:9
 add-filled : tie.Need-add-filled Inv-loop μ-loop
-add-filled c = ?
+add-filled c =
+    let l = c .before .before .before .before .before .before .before .before .loop in
+    let e = c .before .before .before .before .before .write-entry in
+    let f = entry-put (table (c .before .before .before .before .before .before .before .before .before .before .before)) (index (c .before .before .before .before .before .before .before .before .before .before .before)) (c .before .before .before .before .before .before .before .before .before .before .before .pre .1) (window (c .before .before .before .before .before .before .before .before .before .before .before)) (c .before .before .before .before .before .before .before .before .before .before .before .args .number) (c .before .before .before .before .before .before .before .before .before .before .before .args .call) (c .before .before .before .before .before .before .before .before .before .before .before .args .cursor .at) (l .entry) (omega arith) (l .inv) (e .ensures .0) (e .ensures .1) (c .before .written .given .1) in
+    let g = filling-low f in
+    let h = same-len-mid (l .filled) (length (l .out) - l .filled) (l .out) (e .last .1 .1 .1 .1 .1 .1 .1 .1 .1 .1 .1 .1 .1 .1 .1 .1 .1 .1 .1 .1 .0) (e .kept .1 .1 .1 .1 .1 .1 .1 .1 .1 .1 .1 .1 .1 .1 .1 .1 .1 .1 .1 .1 .0) in
+    let k = c .before .before .before .before .before .before .before .before .before .before .before .good .1 .1 .1 .1 .1 .1 .1 .1 .1 .1 .1 .1 .1 .1 .1 .1 .1 .1 .1 .1 .0 in
+    let j = filling-length (l .inv) in
+    omega arith
 
--- src/called.rt:143:9
 add-entry : tie.Need-add-entry Inv-loop μ-loop
-add-entry c = ?
+add-entry c = omega arith
 
--- src/called.rt:112:5
 loop-less : tie.Need-loop-less Inv-loop μ-loop
-loop-less c = ?
+loop-less c = omega arith
 
--- src/called.rt:112:5
 loop-again : tie.Need-loop-again Inv-loop μ-loop
-loop-again c = ?
+loop-again c =
+    let l = c .before .before .before .before .before .before .before .before .loop in
+    let e = c .before .before .before .before .before .write-entry in
+    entry-put (table (c .before .before .before .before .before .before .before .before .before .before .before)) (index (c .before .before .before .before .before .before .before .before .before .before .before)) (c .before .before .before .before .before .before .before .before .before .before .before .pre .1) (window (c .before .before .before .before .before .before .before .before .before .before .before)) (c .before .before .before .before .before .before .before .before .before .before .before .args .number) (c .before .before .before .before .before .before .before .before .before .before .before .args .call) (c .before .before .before .before .before .before .before .before .before .before .before .args .cursor .at) (l .entry) (omega arith) (l .inv) (e .ensures .0) (e .ensures .1) (c .before .written .given .1)
 
--- src/called.rt:76:1
 same-length-2 : tie.Need-same-length-2 Inv-loop μ-loop
-same-length-2 c = ?
+same-length-2 c = filling-length (c .before .loop .inv)
 
--- src/called.rt:76:1
 returns-2 : tie.Need-returns-2 Inv-loop μ-loop
-returns-2 c = ?
+returns-2 c =
+    let l = c .before .loop in
+    filling-end (l .inv) (steps-end (table (c .before .before .before .before)) (index (c .before .before .before .before)) (c .before .before .before .before .pre .1) (window (c .before .before .before .before)) (c .before .before .before .before .args .number) (c .before .before .before .before .args .call) (c .before .before .before .before .args .cursor .at) (l .entry) (omega arith))
 
 pub fill-called-spec : {M : Type 1} → statement M
 fill-called-spec =
