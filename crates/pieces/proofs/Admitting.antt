@@ -14,15 +14,19 @@ use Rattle.transcript.proofs.Asking.{admitted-is}
 use Rattle.deck.specs.declared.DeckAnswer.{DeckAnswer}
 use Rattle.deck.specs.declared.DeckAnswer.the-variants.{Accepted, Refused}
 use Rattle.deck.specs.declared.DeckTable.{DeckTable}
+use Rattle.deck.specs.declared.Deck.{Deck}
 use Rattle.deck.specs.Walk.{walkDeck}
 use Rattle.deck.specs.Deck.{admittedThen, readDeck, deckTranscripts}
 use Rattle.deck.specs.code.Order.{orderOf}
 use Rattle.deck.specs.code.Table.{column, tableOf, emptyTable, rowsFrom, transcriptAt, transcriptRows, tableTranscripts, admitRows, tableAs, deckOf}
 use Rattle.deck.proofs.Accepted.{sound-deck, sound-admission, tableHolds}
+use Rattle.listing.specs.declared.Opening.{Opening}
 use Rattle.listing.specs.declared.Opening.the-variants.{Listing}
 use Rattle.listing.specs.WindowFile.{badWindowFile, badCallFile}
 use Rattle.listing.specs.Listing.{openingBy, opening}
-use Rattle.pieces.specs.code.TableIndex.{Admits, AllAdmitted}
+use Rattle.pieces.specs.declared.TableIndex.{TableIndex}
+use Rattle.pieces.specs.code.TableIndex.{Admits, AllAdmitted, tableIndex}
+use Rattle.pieces.specs.code.Opening.{opened}
 use Rattle.pieces.proofs.FilesJudged.{right-files}
 
 admits-rows : (records : List ℕ) (t : DeckTable) (ks : List ℕ) → admitRows records t ks ≡ Accepted → Admits t ks
@@ -63,3 +67,8 @@ module _ (deck window calls : List ℕ) where
 
   pub opened-transcripts : opening deck window calls ≡ Listing → tableTranscripts (deckOf deck .table) ≡ deckTranscripts deck
   opened-transcripts e = tableHolds deck (opened-deck e .0)
+
+  pub opened-is : {d : Deck} {o : Opening} {x : TableIndex} → d ≡ deckOf deck → o ≡ openingBy (d .answer) window calls → x ≡ tableIndex (d .table)
+      → record { opening = o; table = d .table; index = x } ≡ opened deck window calls
+  unfolding opened opening deckOf
+  opened-is e f g = rw (f, g, e)

@@ -62,6 +62,9 @@ pub malformed-behind : (number at k : ℕ) → (k ≡ 0 → ⊥) → callSteps a
 malformed-behind number at zero h = absurd (h refl)
 malformed-behind number at (suc k) h = rw (drop-nil {A = Entry} k)
 
+pub filled-fits : (room : ℕ) (ss : List Step) {r : Filled} → r ≡ filledAs (pack room ss) → r .length ≤ room
+filled-fits room ss e = let a = ap (λ (f : Filled). f .length) e in let b = packed-fits room ss in omega arith
+
 -- what is put so far, and that with the lines left it gives the whole
 pub record Filling (before after : List ℕ) (filled : ℕ) (left : List Step) (whole : Packed) : Type 0 where
   pub done : List ℕ

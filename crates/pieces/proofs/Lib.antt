@@ -10,3 +10,5 @@ pub mod Filling
 pub mod FilesJudged
 pub mod Admitting
 pub mod Entries
+pub mod CallLines
+pub mod Opening

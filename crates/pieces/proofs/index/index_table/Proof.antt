@@ -49,7 +49,6 @@ at c =
     let e = c .rows-at .ensures ∙ ap (rowsAt ks) n in
     (e, rw e (rows-in-order ks k l))
 
-
 loop-holds : tie.Need-loop-holds Inv-loop μ-loop
 unfolding emptyIndex
 loop-holds c = (length-replicate {A = ℕ} 4096 0, omega arith, c .pre, refl)

@@ -1,26 +1,23 @@
+-- `pieces::open::open_listing` meets its contract.
+-- Assumes nothing.
+use denote.Ref.{now}
+use Rattle.pieces.proofs.Admitting.{all-admitted, opened-is}
 use Rattle.pieces.proofs.open.open_listing.Statement.{statement}
 use Rattle.pieces.proofs.open.open_listing.Tie as tie
-use Rattle.pieces.proofs.open.open_listing.Reads as reads
-use Rattle.pieces.proofs.open.open_listing.Lts as lts
-use Rattle.deck.proofs.read_deck.Reads as read-deck-reads
-use Rattle.pieces.proofs.index.index_table.Reads as index-table-reads
-use Rattle.pieces.proofs.open.judge.Reads as judge-reads
 
--- src/open.rt:45:9
 read-deck-requires : tie.Need-read-deck-requires
-read-deck-requires c κs = ?
+read-deck-requires c κs = tt
 
--- src/open.rt:47:9
 judge-requires : tie.Need-judge-requires
-judge-requires c κs = ?
+judge-requires c κs = tt
 
--- src/open.rt:55:9
 index-table-requires : tie.Need-index-table-requires
-index-table-requires c κs = ?
+index-table-requires c κs = rw (c .before .before .before .before .before .before .before .before .before .before .before .before .before .before .read-deck .ensures) (all-admitted (now (c .before .before .before .before .before .before .before .before .before .before .before .before .before .before .before .before .before .before .args .deck)))
 
--- src/open.rt:42:1
 returns : tie.Need-returns
-returns c = ?
+returns c =
+    let a = c .before .before .before .before .before .before .before .before .before .before .before .before .before .before .before .before .before .before .before .args in
+    opened-is (now (a .deck)) (now (a .window)) (now (a .calls)) (c .before .before .before .before .before .before .before .before .before .before .before .before .before .before .before .read-deck .ensures) (c .before .before .before .before .before .before .before .before .before .before .before .before .before .before .judge .ensures) (c .index-table .ensures)
 
 pub open-listing-spec : {M : Type 1} → statement M
 open-listing-spec =

@@ -1,25 +1,19 @@
+-- `pieces::piece::list_piece` meets its contract.
+-- Assumes nothing.
 use Rattle.pieces.proofs.piece.list_piece.Statement.{statement}
 use Rattle.pieces.proofs.piece.list_piece.Tie as tie
-use Rattle.pieces.proofs.piece.list_piece.Reads as reads
-use Rattle.pieces.proofs.piece.list_piece.Lts as lts
-use Rattle.pieces.proofs.open.open_listing.Reads as open-listing-reads
-use Rattle.pieces.proofs.piece.next_piece.Reads as next-piece-reads
 
--- src/piece.rt:106:9
 open-listing-requires : tie.Need-open-listing-requires
-open-listing-requires c κs = ?
+open-listing-requires c κs = tt
 
--- src/piece.rt:123:5
 next-piece-requires : tie.Need-next-piece-requires
-next-piece-requires c κs = ?
+next-piece-requires c κs = c .before .before .before .before .before .before .before .before .before .before .before .before .before .before .before .before .before .before .before .before .before .before .before .before .before .before .before .before .before .open-listing .ensures
 
--- src/piece.rt:101:1
 same-length : tie.Need-same-length
-same-length c = ?
+same-length c = c .before .before .next-piece .kept .1 .1 .1 .1 .1 .1 .1 .1 .1 .1 .1 .1 .1 .1 .1 .1 .1 .1 .1 .0
 
--- src/piece.rt:101:1
 returns : tie.Need-returns
-returns c = ?
+returns c = c .before .before .next-piece .ensures
 
 pub list-piece-spec : {M : Type 1} → statement M
 list-piece-spec =

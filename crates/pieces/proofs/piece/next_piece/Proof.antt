@@ -1,51 +1,49 @@
+-- `pieces::piece::next_piece` meets its contract.
+-- Assumes nothing.
+use denote.Ref.{now}
+use Rattle.lines.specs.Line.{refusalLine}
+use Rattle.pieces.proofs.Opening.{opened-ready, refused-steps, opened-steps, piece-made}
 use borrow.Author.Needs.{needs}
 use Rattle.pieces.proofs.piece.next_piece.Statement.{statement}
 use Rattle.pieces.proofs.piece.next_piece.Tie as tie
-use Rattle.pieces.proofs.piece.next_piece.Reads as reads
-use Rattle.pieces.proofs.piece.next_piece.Lts as lts
-use Rattle.pieces.proofs.line.fill_lines.Reads as fill-lines-reads
-use Rattle.pieces.proofs.piece.fill_refusal.Reads as fill-refusal-reads
-use Rattle.pieces.proofs.piece.piece_of.Reads as piece-of-reads
 
--- src/piece.rt:76:28
 enum-known-opening : tie.Need-enum-known-opening
 enum-known-opening c = search needs
 
--- src/piece.rt:76:57
 fill-refusal-requires : tie.Need-fill-refusal-requires
 fill-refusal-requires c κs = search needs
 
--- src/piece.rt:76:48
 piece-of-requires : tie.Need-piece-of-requires
 piece-of-requires c κs = search needs
 
--- src/piece.rt:95:13
 enum-told : tie.Need-enum-told
 enum-told c = search needs
 
--- src/piece.rt:77:38
 fill-lines-requires : tie.Need-fill-lines-requires
-fill-lines-requires c κs = ?
+fill-lines-requires c κs =
+    let b = c .before .before .before .before .before .before .before in
+    opened-ready (now (b .args .deck)) (now (b .args .window)) (now (b .args .calls)) (b .pre) (c .before .enum-told .given .1)
 
--- src/piece.rt:77:29
 piece-of-requires-2 : tie.Need-piece-of-requires-2
 piece-of-requires-2 c κs = search needs
 
--- src/piece.rt:47:1
 same-length : tie.Need-same-length
 same-length c = search needs
 
--- src/piece.rt:47:1
 returns : tie.Need-returns
-returns c = ?
+returns c =
+    let b = c .before .before .before .before .before .before .before .before .before .before .before .before in
+    let a = b .args in
+    piece-made (now (a .out)) _ (refused-steps (now (a .deck)) (now (a .window)) (now (a .calls)) (b .pre) (a .cursor) (c .before .before .before .before .before .before .opening .given .1)) (c .before .before .before .fill-refusal .ensures) (c .piece-of .ensures)
 
--- src/piece.rt:47:1
 same-length-2 : tie.Need-same-length-2
 same-length-2 c = search needs
 
--- src/piece.rt:47:1
 returns-2 : tie.Need-returns-2
-returns-2 c = ?
+returns-2 c =
+    let b = c .before .before .before .before .before .before .before .before .before .before .before in
+    let a = b .args in
+    piece-made (now (a .out)) _ (opened-steps (now (a .deck)) (now (a .window)) (now (a .calls)) (b .pre) (a .cursor) (c .before .before .before .before .before .enum-told .given .1)) (c .before .before .before .fill-lines .ensures) (c .piece-of2 .ensures)
 
 pub next-piece-spec : {M : Type 1} → statement M
 next-piece-spec =

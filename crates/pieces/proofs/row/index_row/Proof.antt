@@ -48,8 +48,10 @@ index-transcript-requires c κs =
     let b = c .before .before .before .before .before .before .before .before .before .before in
     let a = b .args in (
       rw (is-lent c) (b .pre .1 .0),
-      (exons-fit (a .row) (a .rows) (b .pre .0) (c .before .before .before .before .before .before .exon-part .ensures .1) (b .pre .1 .1),
-      segments-fit (now (a .marks)) (now (a .ids)) (now (a .numbers)) (now (a .starts)) (now (a .ends)) (a .row) (a .rows) (is-lent c) (c .before .before .segment-part .ensures) (b .pre .0) (b .pre .1 .1) (rw (is-lent c) (b .pre .1 .0))),
+      (
+        exons-fit (a .row) (a .rows) (b .pre .0) (c .before .before .before .before .before .before .exon-part .ensures .1) (b .pre .1 .1),
+        segments-fit (now (a .marks)) (now (a .ids)) (now (a .numbers)) (now (a .starts)) (now (a .ends)) (a .row) (a .rows) (is-lent c) (c .before .before .segment-part .ensures) (b .pre .0) (b .pre .1 .1) (rw (is-lent c) (b .pre .1 .0)),
+      ),
     )
 
 same-length : tie.Need-same-length
