@@ -12,7 +12,7 @@ use Rattle.common.specs.Stored.{Pushed}
 use Rattle.common.proofs.Stored.{pushed-none, pushed-on}
 use Rattle.names.specs.Names.{termName}
 use Rattle.terms.specs.Terms.{ranksFrom, ranks, mostSevere, withoutFirst}
-use Rattle.names.proofs.NameTable.{name-short}
+use Rattle.names.proofs.Names.{name-short}
 use Rattle.terms.proofs.Ranks.{ranks-rest}
 use Rattle.lines.specs.Line.{commas, termList}
 use Rattle.lines.specs.code.Columns.{behind}
