@@ -5,7 +5,7 @@ use mathlib.Core.Path.{_≡_, refl, sym, _∙_, ap}
 use mathlib.Core.Bool.{Bool, true, false, cond}
 use mathlib.Core.List.{List, [], _∷_, _++_, map, append-nil, append-assoc}
 use native.Mathlib.Omega.{arith}
-use lib.ListN.{length, getD, drop}
+use lib.ListN.{length, getD, drop, length-append}
 use lib.Dec.{eqb}
 use Rattle.common.specs.Lists.{consIf}
 use Rattle.common.specs.Stored.{Pushed}
@@ -15,31 +15,16 @@ use Rattle.terms.specs.Terms.{ranksFrom, ranks, mostSevere, withoutFirst}
 use Rattle.names.proofs.Names.{name-short}
 use Rattle.terms.proofs.Ranks.{ranks-rest}
 use Rattle.lines.specs.Line.{commas, termList}
-use Rattle.lines.specs.code.Columns.{behind}
 
--- the names with commas between, behind other names where they are not the first
-abbrev rest : Bool → List (List ℕ) → List ℕ
-rest true ns = commas ns
-rest false [] = []
-rest false (n ∷ ns) = 44 ∷ (n ++ rest false ns)
+-- names that follow a first one: each behind a comma
+abbrev pub following : List (List ℕ) → List ℕ
+following [] = []
+following (n ∷ ns) = 44 ∷ (n ++ following ns)
 
-commas-rest : (n : List ℕ) (ns : List (List ℕ)) → commas (n ∷ ns) ≡ n ++ rest false ns
+commas-first : (n : List ℕ) (ns : List (List ℕ)) → commas (n ∷ ns) ≡ n ++ following ns
 unfolding commas
-commas-rest n [] = sym (append-nil n)
-commas-rest n (m ∷ ns) = ap (λ (x : List ℕ). n ++ (44 ∷ x)) (commas-rest m ns)
-
-rest-one : (first : Bool) (n : List ℕ) (ns : List (List ℕ)) → rest first (n ∷ ns) ≡ behind first n ++ rest false ns
-rest-one true n ns = commas-rest n ns
-rest-one false n ns = refl
-
-rest-none : (first : Bool) → rest first [] ≡ []
-unfolding commas
-rest-none true = refl
-rest-none false = refl
-
-behind-length : (first : Bool) (l : List ℕ) → length (behind first l) ≤ suc (length l)
-behind-length true l = omega arith
-behind-length false l = omega arith
+commas-first n [] = sym (append-nil n)
+commas-first n (m ∷ ns) = ap (λ (x : List ℕ). n ++ (44 ∷ x)) (commas-first m ns)
 
 -- the ranks of a set: none below the first, and no more than the bits
 no-ranks : (k r n : ℕ) → 0 < r → getD (ranksFrom k r n) 0 0 ≡ 0 → ranksFrom k r n ≡ []
@@ -66,7 +51,7 @@ split-ranks : (ks : List ℕ) {r : ℕ} → r ≡ getD ks 0 0 → (r ≡ 0 → �
 split-ranks [] e h = absurd (h e)
 split-ranks (k ∷ ks) e h = rw e
 
-pub first-ranks : (s : ℕ) {r : ℕ} → s < 2 ^ 32 → r ≡ mostSevere s → (r ≡ 0 → ⊥) → ranks s ≡ r ∷ ranks (withoutFirst s)
+first-ranks : (s : ℕ) {r : ℕ} → s < 2 ^ 32 → r ≡ mostSevere s → (r ≡ 0 → ⊥) → ranks s ≡ r ∷ ranks (withoutFirst s)
 first-ranks s {r} l e h = split-ranks (ranks s) e h ∙ ap (λ (ks : List ℕ). r ∷ ks) (sym (ranks-rest s l))
 
 fewer : (s : ℕ) → withoutFirst s ≤ s
@@ -77,46 +62,79 @@ fewer s = here (eqb s 0)
     here true = omega arith
     here false = omega arith
 
--- while the terms are read
-pub record Naming (out₀ : List ℕ) (at set : ℕ) (out : List ℕ) (bits rank : ℕ) (first : Bool) (to : ℕ) : Type 0 where
+-- how long the names of some ranks are: at most 35 bytes for each, with its comma
+following-length : (ks : List ℕ) → length (following (map termName ks)) ≤ 35 * length ks
+following-length [] = omega arith
+following-length (k ∷ ks) =
+    let a = length-append (termName k) (following (map termName ks)) in
+    let b = name-short k in
+    let c = following-length ks in
+    omega arith
+
+commas-length : (ks : List ℕ) → length (commas (map termName ks)) ≤ 1 + 35 * length ks
+unfolding commas
+commas-length [] = omega arith
+commas-length (k ∷ ks) =
+    let a = length-append (termName k) (following (map termName ks)) in
+    let b = name-short k in
+    let c = following-length ks in
+    rw (commas-first (termName k) (map termName ks)) (omega arith)
+
+pub terms-length : (s : ℕ) → length (termList s) ≤ 1121
+terms-length s = let a = few-ranks 32 1 s in let b = commas-length (ranks s) in omega arith
+
+-- the list of an empty set, and of one with a first term
+module _ (s : ℕ) {r : ℕ} (e : r ≡ mostSevere s) where
+  pub no-terms : r ≡ 0 → termList s ≡ 45 ∷ []
+  unfolding commas
+  no-terms z = rw (no-ranks 32 1 s (omega arith) (sym e ∙ z))
+
+  pub some-terms : s < 2 ^ 32 → (r ≡ 0 → ⊥) → termList s ≡ termName r ++ following (map termName (ranks (withoutFirst s)))
+  some-terms l h =
+      ap (λ (ks : List ℕ). commas (map termName ks)) (first-ranks s l e h)
+      ∙ commas-first (termName r) (map termName (ranks (withoutFirst s)))
+
+-- while the terms that follow are read
+pub record Naming (out₀ : List ℕ) (from set : ℕ) (out : List ℕ) (bits rank to : ℕ) : Type 0 where
   pub lowest : rank ≡ mostSevere bits
   pub narrow : bits < 2 ^ 32
-  pub room : to + 40 * length (ranks bits) ≤ at + 1280
   pub text : List ℕ
-  pub pushed : Pushed out₀ at text out to
-  pub whole : text ++ rest first (map termName (ranks bits)) ≡ termList set
+  pub pushed : Pushed out₀ from text out to
+  pub whole : text ++ following (map termName (ranks bits)) ≡ following (map termName (ranks set))
 
-pub named-none : (out : List ℕ) (at set : ℕ) {rank : ℕ} → rank ≡ mostSevere set → set < 2 ^ 32 → Naming out at set out set rank true at
-named-none out at set e l = let f = few-ranks 32 1 set in record { lowest = e; narrow = l; room = omega arith; text = []; pushed = pushed-none out at; whole = refl }
+pub named-none : {out : List ℕ} {from set rank : ℕ} → rank ≡ mostSevere set → set < 2 ^ 32 → Naming out from set out set rank from
+named-none {out} {from} {set} {rank} e l = record { lowest = e; narrow = l; text = []; pushed = pushed-none out from; whole = refl }
 
-module _ (out₀ : List ℕ) (at set : ℕ) (out : List ℕ) (bits rank : ℕ) (first : Bool) (to : ℕ) (h : Naming out₀ at set out bits rank first to) where
+module _ {out₀ : List ℕ} {from set : ℕ} {out : List ℕ} {bits rank to : ℕ} (h : Naming out₀ from set out bits rank to) where
+  -- the position is not far behind the first name
+  pub near : to ≤ from + 1120
+  near =
+      let a = few-ranks 32 1 set in
+      let b = following-length (ranks set) in
+      let c = ap length (h .whole) in
+      let d = length-append (h .text) (following (map termName (ranks bits))) in
+      let p = h .pushed .behind in
+      omega arith
+
   module _ (some : rank ≡ 0 → ⊥) where
     pub ranks-fall : length (ranks bits) ≡ suc (length (ranks (withoutFirst bits)))
     ranks-fall = ap length (first-ranks bits (h .narrow) (h .lowest) some)
 
-    pub named-next : {out₂ : List ℕ} {bits₂ rank₂ to₂ : ℕ} → Pushed out to (behind first (termName rank)) out₂ to₂ → bits₂ ≡ withoutFirst bits → rank₂ ≡ mostSevere bits₂
-        → Naming out₀ at set out₂ bits₂ rank₂ false to₂
+    pub named-next : {out₂ : List ℕ} {bits₂ rank₂ to₂ : ℕ} → Pushed out to (44 ∷ termName rank) out₂ to₂
+        → bits₂ ≡ withoutFirst bits → rank₂ ≡ mostSevere bits₂ → Naming out₀ from set out₂ bits₂ rank₂ to₂
     named-next {out₂} {bits₂} {rank₂} {to₂} p e f =
-        let more = map termName (ranks (withoutFirst bits)) in
-        let w : h .text ++ rest first (termName rank ∷ more) ≡ termList set = rw (first-ranks bits (h .narrow) (h .lowest) some) at (h .whole) in
-        let r = h .room in
-        let n = name-short rank in
-        let b = behind-length first (termName rank) in
-        let q = p .behind in
-        let k = ranks-fall in
+        let more = following (map termName (ranks (withoutFirst bits))) in
         record {
           lowest = f;
           narrow = rw e (let x = fewer bits in let y = h .narrow in omega arith);
-          room = rw e (omega arith);
-          text = h .text ++ behind first (termName rank);
+          text = h .text ++ (44 ∷ termName rank);
           pushed = pushed-on (h .pushed) p;
-          whole = rw (e, append-assoc (h .text) (behind first (termName rank)) (rest false more))
-              (ap (λ (x : List ℕ). h .text ++ x) (sym (rest-one first (termName rank) more)) ∙ w);
+          whole = rw (e, append-assoc (h .text) (44 ∷ termName rank) more)
+              (rw (first-ranks bits (h .narrow) (h .lowest) some) at (h .whole));
         }
 
-  pub named-all : rank ≡ 0 → Pushed out₀ at (termList set) out to
+  pub named-all : rank ≡ 0 → Pushed out₀ from (following (map termName (ranks set))) out to
   named-all z =
       let n : ranks bits ≡ [] = no-ranks 32 1 bits (omega arith) (sym (h .lowest) ∙ z) in
-      let w : h .text ++ rest first [] ≡ termList set = rw n at (h .whole) in
-      let v : h .text ≡ termList set = sym (append-nil (h .text)) ∙ (rw (rest-none first) at w) in
-      rw v at (h .pushed)
+      let w : h .text ++ [] ≡ following (map termName (ranks set)) = rw n at (h .whole) in
+      rw (sym (append-nil (h .text)) ∙ w) at (h .pushed)

@@ -40,12 +40,13 @@ abbrev pub counted : Counted → List ℕ
 counted Counted.Absent = bytes "-"
 counted (Counted.At n) = decimal n
 
--- the names with commas between, from the lowest bit
+-- names with commas between, `-` for none
 unfoldable pub commas : List (List ℕ) → List ℕ
-commas [] = []
+commas [] = bytes "-"
 commas (l ∷ []) = l
 commas (l ∷ k ∷ ks) = l ++ (byte "," ∷ commas (k ∷ ks))
 
+-- the names of a set's terms, from the lowest bit
 abbrev pub termList : ℕ → List ℕ
 termList s = commas (map termName (ranks s))
 

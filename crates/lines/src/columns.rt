@@ -13,12 +13,12 @@ use terms::TermSet;
 ghost use mathlib.Core.Path.{_≡_};
 ghost use mathlib.Core.List.{[], _∷_};
 ghost use Prim.Native.Nat.{_+_, _≤_, _<_, _^_};
+ghost use Rattle.common.specs.Text.{byte};
 ghost use Rattle.common.specs.Stored.{Pushed};
 ghost use Rattle.codon.specs.Display.{lowercase, shown, formatCodon, formatCodons, formatAminoAcids};
 ghost use Rattle.names.specs.Names.{termName};
 ghost use Rattle.consequence.specs.Answer.{cdnaCount};
 ghost use Rattle.lines.specs.Line.{numbered, counted, termList};
-ghost use Rattle.lines.specs.code.Columns.{behind};
 
 // k/n, `-` for absent.
 pub(crate) fn push_numbered(out: &mut [u8], at: usize, n: Numbered) -> usize
@@ -133,31 +133,30 @@ pub(crate) fn push_letters(out: &mut [u8], at: usize, a: AminoAcids) -> usize
     }
 }
 
-// The name of one more term, behind a comma unless it is the first.
-fn push_next(out: &mut [u8], at: usize, first: bool, rank: u32) -> usize
+// The name of one more term, behind a comma.
+fn push_next(out: &mut [u8], at: usize, rank: u32) -> usize
     requires { ⌜ at + 65 < 2 ^ 64 ⌝ }
-    ensures { λ r. ⌜ Pushed (now out.entry) at (behind first (termName rank)) (now out.exit) r ⌝ }
+    ensures { λ r. ⌜ Pushed (now out.entry) at (byte "," ∷ termName rank) (now out.exit) r ⌝ }
 {
-    if first {
-        return push_name(out, at, rank);
-    }
     let to = push_byte(out, at, 44);
     push_name(out, to, rank)
 }
 
-// The names of the terms from the lowest bit on, with commas between.
+// The names of the terms from the lowest bit on, with commas between, `-` for none.
 pub(crate) fn push_terms(out: &mut [u8], at: usize, set: TermSet) -> usize
     requires { ⌜ at + 2048 < 2 ^ 64 ⌝ }
     ensures { λ r. ⌜ Pushed (now out.entry) at (termList (set .0)) (now out.exit) r ⌝ }
     ensures { λ r. ⌜ r ≤ at + 1280 ⌝ }
 {
-    let mut rest = set;
-    let mut rank = set.most_severe();
-    let mut first = true;
-    let mut to = at;
+    let first = set.most_severe();
+    if first == 0 {
+        return push_byte(out, at, 45);
+    }
+    let mut to = push_name(out, at, first);
+    let mut rest = set.rest();
+    let mut rank = rest.most_severe();
     while rank != 0 {
-        to = push_next(out, to, first, rank);
-        first = false;
+        to = push_next(out, to, rank);
         rest = rest.rest();
         rank = rest.most_severe();
     }

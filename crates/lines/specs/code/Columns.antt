@@ -1,9 +1,8 @@
 -- The parts of a line that the code puts one behind the other.
 use Prim.Native.Nat.{ℕ}
-use mathlib.Core.Bool.{Bool, true, false}
 use mathlib.Core.List.{List, [], _∷_, _++_}
 use lib.ListN.{getD}
-use Rattle.common.specs.Text.{byte, bytes, decimal}
+use Rattle.common.specs.Text.{bytes, decimal}
 use Rattle.codon.specs.Display.{formatCodons, formatAminoAcids}
 use Rattle.locate.specs.PlaceKind.{placeNames}
 use Rattle.consequence.specs.Answer.{cdnaCount}
@@ -13,11 +12,6 @@ use Rattle.lines.specs.Line.{newline, space, numbered, counted, termList
 -- the name of the place of a kind
 abbrev pub placeText : ℕ → List ℕ
 placeText kind = bytes (getD placeNames kind "")
-
--- a name behind a comma, unless it is the first
-abbrev pub behind : Bool → List ℕ → List ℕ
-behind true l = l
-behind false l = byte "," ∷ l
 
 -- the line of an answered call in three parts: up to the place, the numbers, and the rest with the newline
 unfoldable pub frontColumns : ℕ → ℕ → ℕ → List ℕ

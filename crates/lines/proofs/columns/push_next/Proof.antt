@@ -5,6 +5,9 @@ use borrow.Author.Needs.{needs}
 use Rattle.lines.proofs.columns.push_next.Statement.{statement}
 use Rattle.lines.proofs.columns.push_next.Tie as tie
 
+push-byte-requires : tie.Need-push-byte-requires
+push-byte-requires c κs = search needs
+
 push-name-requires : tie.Need-push-name-requires
 push-name-requires c κs = search needs
 
@@ -12,28 +15,7 @@ same-length : tie.Need-same-length
 same-length c = search needs
 
 returns : tie.Need-returns
-returns c = rw (c .before .before .before .before .if1 .taken) (c .before .before .push-name .ensures)
-
-push-byte-requires : tie.Need-push-byte-requires
-push-byte-requires c κs = search needs
-
-push-name-requires-2 : tie.Need-push-name-requires-2
-push-name-requires-2 c κs = search needs
-
-same-length-2 : tie.Need-same-length-2
-same-length-2 c = search needs
-
-returns-2 : tie.Need-returns-2
-returns-2 c = rw (c .before .before .before .before .before .before .before .before .if1 .left) (pushed-on (c .before .before .before .before .before .before .push-byte .ensures) (c .before .before .push-name2 .ensures))
+returns c = pushed-on (c .before .before .before .before .before .before .push-byte .ensures) (c .before .before .push-name .ensures)
 
 pub push-next-spec : {M : Type 1} → statement M
-push-next-spec =
-    tie.close
-    (tie.spec
-    push-name-requires
-    same-length
-    returns
-    push-byte-requires
-    push-name-requires-2
-    same-length-2
-    returns-2)
+push-next-spec = tie.close (tie.spec push-byte-requires push-name-requires same-length returns)
