@@ -4,12 +4,10 @@ use Prim.Native.Nat.{ℕ, _+_, _≤_, _<_}
 use mathlib.Core.Path.{_≡_, refl, _∙_}
 use mathlib.Core.List.{List, [], _∷_, _++_}
 use native.Mathlib.Omega.{arith}
-use lib.ListN.{length, length-append}
+use lib.ListN.{length}
 use borrow.Author.Tests.{le-leb, lt-leb}
-use Rattle.common.specs.Text.{decimal}
 use Rattle.common.specs.Stored.{stored, Pushed}
 use Rattle.common.proofs.Stored.{stored-whole, stored-empty}
-use Rattle.common.proofs.Digits.{digits-length}
 use Rattle.lines.specs.declared.Written.{Written}
 use Rattle.lines.specs.Line.{writeAnswer, writtenTo}
 
@@ -41,6 +39,3 @@ put-whole out line {after} {n} h q =
     let e : n ≡ length line = omega arith in
     let h2 : length line ≤ length out = omega arith in
     rw (e, le-leb (length line) (length out) h2) (refl, q .bytes ∙ stored-whole out line h2)
-
-pub number-length : (n e : ℕ) → length (decimal n ++ (e ∷ [])) ≤ 21
-number-length n e = let a = length-append (decimal n) (e ∷ []) in let b = digits-length 20 n in omega arith

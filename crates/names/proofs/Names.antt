@@ -31,17 +31,18 @@ unfolding termName termNames
 nameless zero h = refl
 nameless (suc k) h = let l = h (omega arith) in ap bytes (List·getD-eq-default termNames "" {n = k} (omega arith))
 
--- every name has at most 34 bytes
-short : (ns : List String) → all (λ s. leb (length (bytes s)) 34) ns ≡ true → (k : ℕ) → length (bytes (getD ns k "")) ≤ 34
+-- texts of which none has more than n bytes, one computed test for all; there is none behind the last
+pub short-texts : (n : ℕ) (ts : List String) → all (λ s. leb (length (bytes s)) n) ts ≡ true → (k : ℕ)
+    → length (bytes (getD ts k "")) ≤ n
 unfolding all
-short [] h k = omega arith
-short (n ∷ ns) h zero = leb-true (length (bytes n)) 34 (and-true (leb (length (bytes n)) 34) (all (λ s. leb (length (bytes s)) 34) ns) h .0)
-short (n ∷ ns) h (suc k) = short ns (and-true (leb (length (bytes n)) 34) (all (λ s. leb (length (bytes s)) 34) ns) h .1) k
+short-texts n [] h k = omega arith
+short-texts n (t ∷ ts) h zero = leb-true (length (bytes t)) n (and-true (leb (length (bytes t)) n) (all (λ s. leb (length (bytes s)) n) ts) h .0)
+short-texts n (t ∷ ts) h (suc k) = short-texts n ts (and-true (leb (length (bytes t)) n) (all (λ s. leb (length (bytes s)) n) ts) h .1) k
 
 pub name-short : (r : ℕ) → length (termName r) ≤ 34
 unfolding termName termNames all
 name-short zero = omega arith
-name-short (suc k) = short termNames refl k
+name-short (suc k) = short-texts 34 termNames refl k
 
 -- zeros behind a list change none of its elements
 zeros : (n i : ℕ) → _≡_ {A = ℕ} (getD (replicate n 0) i 0) 0

@@ -3,6 +3,7 @@
 use native.Mathlib.Omega.{arith}
 use Rattle.common.proofs.Stored.{pushed-on}
 use Rattle.lines.proofs.AnswerLine.{line-parts}
+use Rattle.lines.proofs.Longest.{answer-length}
 use borrow.Author.Needs.{needs}
 use Rattle.lines.proofs.answer.push_answer.Statement.{statement}
 use Rattle.lines.proofs.answer.push_answer.Tie as tie
@@ -24,11 +25,16 @@ same-length c = search needs
 
 returns : tie.Need-returns
 returns c =
-    let a = c .before .before .before .before .before .before .before .before .before .before .before .before .before .before .args in
-    let k = c .before .before .before .before .before .before .before .before .before .before .push-front .ensures .1 in
-    let l = c .before .before .before .before .before .before .push-numbers .ensures .1 in
-    let m = c .before .before .push-back .ensures .1 in
-    (rw (line-parts (a .number) (a .id) (a .x)) at (pushed-on (pushed-on (rw (c .before .before .before .before .before .before .before .before .before .before .before .before .place-kind .ensures) at (c .before .before .before .before .before .before .before .before .before .before .push-front .ensures .0)) (c .before .before .before .before .before .before .push-numbers .ensures .0)) (c .before .before .push-back .ensures .0)), omega arith)
+    let z = c .before .before in
+    let n = z .before .before .before .before in
+    let f = n .before .before .before .before in
+    let k = f .before .before in
+    let a = k .before .before .args in
+    let p = pushed-on (rw (k .place-kind .ensures) at (f .push-front .ensures .0)) (n .push-numbers .ensures .0) in
+    let q = rw (line-parts (a .number) (a .id) (a .x)) at (pushed-on p (z .push-back .ensures .0)) in
+    let b = q .behind in
+    let l = answer-length (a .number) (a .id) (a .x) in
+    (q, omega arith)
 
 pub push-answer-spec : {M : Type 1} → statement M
 push-answer-spec =

@@ -3,7 +3,9 @@
 use native.Mathlib.Omega.{arith}
 use Rattle.common.proofs.Stored.{pushed-on}
 use Rattle.codon.specs.Display.{formatCodons}
+use Rattle.codon.specs.declared.Codons.{Codons}
 use Rattle.lines.proofs.Shown.{codon-length}
+use Rattle.lines.proofs.Longest.{codons-length}
 use borrow.Author.Needs.{needs}
 use Rattle.lines.proofs.columns.push_codons.Statement.{statement}
 use Rattle.lines.proofs.columns.push_codons.Tie as tie
@@ -38,7 +40,15 @@ same-length-2 c = search needs
 
 returns-2 : tie.Need-returns-2
 unfolding formatCodons
-returns-2 c = (rw (c .before .before .before .before .before .before .before .before .before .before .before .before .before .c .given .1) (pushed-on (c .before .before .before .before .before .before .before .before .before .before .push-codon .ensures) (pushed-on (c .before .before .before .before .before .before .push-byte2 .ensures) (c .before .before .push-codon2 .ensures))), omega (arith, codon-length (c .before .before .before .before .before .before .before .before .before .before .before .before .before .c .given .0 .0) (c .before .before .before .before .before .before .before .before .before .before .before .before .before .c .given .0 .1 .1 .0), codon-length (c .before .before .before .before .before .before .before .before .before .before .before .before .before .c .given .0 .1 .0) (c .before .before .before .before .before .before .before .before .before .before .before .before .before .c .given .0 .1 .1 .0), c .before .before .before .before .before .before .before .before .before .before .push-codon .ensures .behind, c .before .before .before .before .before .before .push-byte2 .ensures .behind, c .before .before .push-codon2 .ensures .behind))
+returns-2 c =
+    let z = c .before .before in
+    let y = z .before .before .before .before in
+    let x = y .before .before .before .before in
+    let n = x .before .before .before in
+    let p = pushed-on (x .push-codon .ensures) (pushed-on (y .push-byte2 .ensures) (z .push-codon2 .ensures)) in
+    let b = p .behind in
+    let l = codons-length (Codons.Change (n .c .given .0 .0) (n .c .given .0 .1 .0) (n .c .given .0 .1 .1 .0)) in
+    (rw (n .c .given .1) p, omega arith)
 
 pub push-codons-spec : {M : Type 1} → statement M
 push-codons-spec =

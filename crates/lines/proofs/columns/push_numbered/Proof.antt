@@ -3,6 +3,8 @@
 use native.Mathlib.Omega.{arith}
 use Rattle.common.proofs.Stored.{pushed-on}
 use Rattle.common.proofs.Digits.{digits-length}
+use Rattle.consequence.specs.declared.Numbered.{Numbered}
+use Rattle.lines.proofs.Longest.{numbered-length}
 use borrow.Author.Needs.{needs}
 use Rattle.lines.proofs.columns.push_numbered.Statement.{statement}
 use Rattle.lines.proofs.columns.push_numbered.Tie as tie
@@ -41,7 +43,15 @@ same-length-2 : tie.Need-same-length-2
 same-length-2 c = search needs
 
 returns-2 : tie.Need-returns-2
-returns-2 c = (rw (c .before .before .before .before .before .before .before .before .before .before .before .before .before .n .given .1) (pushed-on (c .before .before .before .before .before .before .before .before .before .before .push-decimal .ensures) (pushed-on (c .before .before .before .before .before .before .push-byte2 .ensures) (c .before .before .push-decimal2 .ensures))), omega (arith, digits-length 20 (c .before .before .before .before .before .before .before .before .before .before .before .before .before .n .given .0 .0), digits-length 20 (c .before .before .before .before .before .before .before .before .before .before .before .before .before .n .given .0 .1 .0), c .before .before .before .before .before .before .before .before .before .before .push-decimal .ensures .behind, c .before .before .before .before .before .before .push-byte2 .ensures .behind, c .before .before .push-decimal2 .ensures .behind))
+returns-2 c =
+    let z = c .before .before in
+    let y = z .before .before .before .before in
+    let x = y .before .before .before .before in
+    let n = x .before .before .before in
+    let p = pushed-on (x .push-decimal .ensures) (pushed-on (y .push-byte2 .ensures) (z .push-decimal2 .ensures)) in
+    let b = p .behind in
+    let l = numbered-length (Numbered.Of (n .n .given .0 .0) (n .n .given .0 .1 .0)) in
+    (rw (n .n .given .1) p, omega arith)
 
 pub push-numbered-spec : {M : Type 1} → statement M
 push-numbered-spec =
