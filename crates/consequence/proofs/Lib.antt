@@ -12,3 +12,4 @@ pub mod CallPlaces
 pub mod CodonHolds
 pub mod ShownCodons
 pub mod NumbersGiven
+pub mod SomeTerm

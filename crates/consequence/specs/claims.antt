@@ -1,3 +1,4 @@
 pub mod CallPlaces
 pub mod Codons
 pub mod Numbers
+pub mod SomeTerm
