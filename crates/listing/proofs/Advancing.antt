@@ -19,10 +19,8 @@ use Rattle.listing.specs.declared.Rest.the-variants.{From, Nothing}
 use Rattle.listing.specs.declared.Piece.{Piece}
 use Rattle.listing.specs.declared.Piece.the-variants.{Lines, Last, Refused}
 use Rattle.listing.specs.Numbers.{pieceNumber, isPiece}
-use Rattle.listing.specs.Entries.{Entry, entryLine}
 use Rattle.listing.specs.Pieces.{Step, steps, start, pack, packed, pieceBy, pieceOf}
 use Rattle.listing.specs.claims.Numbers.{Each, tooLong, PieceGiven}
-use Rattle.listing.specs.claims.Whole.{LongestEntry}
 use Rattle.listing.proofs.Packing.{texts, Split, pack-split, packed-fits}
 use Rattle.listing.proofs.Resuming.{Resumes, resumed}
 use Rattle.listing.proofs.Fitting.{Fitting, steps-fit}
@@ -93,5 +91,5 @@ module _ (room : ℕ) where
       rw (e, le-ltb room (length (s .text)) l) (some-lines (length (s .text ++ t)) (pack (room - length (s .text)) ss .rest) (omega arith))))
       (λ e. (let l = leb-false (length (s .text)) room e in rw (e, lt-ltb room (length (s .text)) l) (record { refusal-is = refl; among = refl; zero-answered = refl })))
 
-pub pieceGiven : (long : LongestEntry) (some : (e : Entry) → 1 ≤ length (entryLine e)) → PieceGiven
-pieceGiven long some deck window calls c buffer = given (length buffer) (steps deck window calls c) (steps-fit long some deck window calls c)
+pub pieceGiven : PieceGiven
+pieceGiven deck window calls c buffer = given (length buffer) (steps deck window calls c) (steps-fit deck window calls c)

@@ -81,7 +81,7 @@ module _ {A : Type 0} (so : A → Type 0) where
   each-both [] ys h k = k
   each-both (x ∷ xs) ys h k = (h .0, each-both xs ys (h .1) k)
 
-  each-of : {B : Type 0} (f : B → A) → ((b : B) → so (f b)) → (bs : List B) → Each so (map f bs)
+  pub each-of : {B : Type 0} (f : B → A) → ((b : B) → so (f b)) → (bs : List B) → Each so (map f bs)
   each-of f h [] = tt
   each-of f h (b ∷ bs) = (h b, each-of f h bs)
 

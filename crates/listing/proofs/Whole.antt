@@ -22,7 +22,7 @@ use Rattle.listing.specs.Entries.{Entry, entryLine, callEntries, entries
 use Rattle.listing.specs.Listing.{opening, listed, listingBy, listing, printed}
 use Rattle.listing.specs.Pieces.{Step, callSteps, stepsFrom, stepsBy, steps, start, pack, packed, pieceBy, pieceOf, pieceTo}
 use Rattle.listing.specs.claims.Numbers.{Each}
-use Rattle.listing.specs.claims.Whole.{LongestEntry, shown, output, WholeOutput}
+use Rattle.listing.specs.claims.Whole.{shown, output, WholeOutput}
 use Rattle.listing.proofs.Packing.{textOf, texts, texts-both, Split, pack-split, packed-fits}
 use Rattle.listing.proofs.Resuming.{Resumes, resumed, steps-resume}
 use Rattle.listing.proofs.Fitting.{Fitting, each-at, steps-fit}
@@ -63,7 +63,7 @@ unfolding concat
 pre-some [] h = absurd (omega arith)
 pre-some (x ∷ pre) h = omega arith
 
-module _ (long : LongestEntry) (some : (e : Entry) → 1 ≤ length (entryLine e)) (deck window calls : List ℕ) where
+module _ (deck window calls : List ℕ) where
   abbrev go : Cursor → List Step
   go = steps deck window calls
 
@@ -72,11 +72,11 @@ module _ (long : LongestEntry) (some : (e : Entry) → 1 ≤ length (entryLine e
     piece-some : (pre : List Step) (s : Step) (post : List Step) → go c ≡ pre ++ (s ∷ post) → length buffer < length (texts pre) + length (s .text) → 0 < length (texts pre)
     unfolding concat
     piece-some [] s post e l =
-        let f : Fitting s = each-at Fitting [] s post (subst (Each Fitting) e (steps-fit long some deck window calls c)) in
+        let f : Fitting s = each-at Fitting [] s post (subst (Each Fitting) e (steps-fit deck window calls c)) in
         let h = f .1 in
         absurd (omega arith)
     piece-some (x ∷ pre) s post e l =
-        let f : Fitting x = each-at Fitting [] x (pre ++ (s ∷ post)) (subst (Each Fitting) e (steps-fit long some deck window calls c)) in
+        let f : Fitting x = each-at Fitting [] x (pre ++ (s ∷ post)) (subst (Each Fitting) e (steps-fit deck window calls c)) in
         let h = f .0 in
         let a = length-append (x .text) (texts pre) in
         omega arith
@@ -111,9 +111,9 @@ module _ (long : LongestEntry) (some : (e : Entry) → 1 ≤ length (entryLine e
           ∙ sym (texts-both pre (s ∷ post))
           ∙ sym (ap texts e))
 
-pub wholeOutput : (long : LongestEntry) (some : (e : Entry) → 1 ≤ length (entryLine e)) → WholeOutput
-wholeOutput long some deck window calls buffer r n l =
+pub wholeOutput : WholeOutput
+wholeOutput deck window calls buffer r n l =
     let e = listing-steps deck window calls in
     let a = ap length e in
     let b = length-map (steps deck window calls start) textOf in
-    outputs long some deck window calls n start buffer r (omega arith) ∙ ap concat e
+    outputs deck window calls n start buffer r (omega arith) ∙ ap concat e

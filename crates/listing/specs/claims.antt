@@ -1,2 +1,3 @@
 pub mod Numbers
 pub mod Whole
+pub mod Ranks
