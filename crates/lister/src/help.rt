@@ -1,4 +1,5 @@
 // What `--help` prints.
+use crate::write::write_all;
 
 // Whether a word asks for help: `--help` or `-h`.
 pub(crate) fn is_help(word: &[u8]) -> bool {
@@ -35,9 +36,10 @@ fn starts_help(word: &[u8]) -> bool {
 }
 
 // What it reads and prints.
-fn print_usage(fd: i32) {
-    io::write_all(
+fn print_usage(fd: i32, name: &[u8]) -> bool {
+    write_all(
         fd,
+        name,
         b"\
 lister: where single-base calls fall in transcripts, and what follows from them\n\
 \n\
@@ -56,14 +58,15 @@ the deck in its order, one line goes to standard output:\n\
 \x20 0 0 27              the window or the calls are refused; nothing else is printed\n\
 \n\
 A column that does not apply is -. A file that is missing or cannot be read is\n\
-taken as empty, and standard error says why.\n",
-    );
+taken as empty, and a failed write ends the run; standard error says why.\n",
+    )
 }
 
 // Numbers that end the run.
-fn print_deck(fd: i32) {
-    io::write_all(
+fn print_deck(fd: i32, name: &[u8]) -> bool {
+    write_all(
         fd,
+        name,
         b"\
 \n\
 A deck is refused by\n\
@@ -84,13 +87,14 @@ A deck is refused by\n\
 \x20 23  an unknown kind, a head elsewhere than record 0, unused bytes not zero\n\
 \x20 24  a bad link (the linking record), or a record that no link reaches\n\
 \x20 25  a head that links to no transcript\n",
-    );
+    )
 }
 
 // Numbers of single calls and of the two other files.
-fn print_calls(fd: i32) {
-    io::write_all(
+fn print_calls(fd: i32, name: &[u8]) -> bool {
+    write_all(
         fd,
+        name,
         b"\
 \n\
 A call is refused by\n\
@@ -105,11 +109,14 @@ A call is refused by\n\
 \x20 26  a line of another shape, or without its newline\n\
 \x20 27  calls over 65536 bytes; a window under 10 or over 65536 bytes\n\
 \x20 28  a line longer than the buffer (never in this program)\n",
-    );
+    )
 }
 
-pub(crate) fn print(fd: i32) {
-    print_usage(fd);
-    print_deck(fd);
-    print_calls(fd);
+// Prints all of it. After a write that failed nothing more is written.
+pub(crate) fn print(fd: i32, name: &[u8]) {
+    if print_usage(fd, name) {
+        if print_deck(fd, name) {
+            print_calls(fd, name);
+        }
+    }
 }

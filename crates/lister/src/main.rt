@@ -3,6 +3,7 @@
 mod files;
 mod help;
 mod printing;
+mod write;
 
 use files::read_file;
 use files::read_to_end;
@@ -31,11 +32,11 @@ fn main() {
     let mut first = io::buffer();
     let n = os::arg(1, &mut first);
     if help::is_help(&first[..n]) {
-        help::print(STDOUT_FILENO);
+        help::print(STDOUT_FILENO, b"standard output");
         return;
     }
     if count != 3 {
-        help::print(STDERR_FILENO);
+        help::print(STDERR_FILENO, b"standard error");
         return;
     }
     let mut second = io::buffer();
