@@ -38,6 +38,12 @@ class Runner:
 
 
 def run(lister, arguments, folder, calls):
+    """What the lister prints."""
+    return finished(lister, arguments, folder, calls).stdout
+
+
+def finished(lister, arguments, folder, calls):
+    """A run that has ended well."""
     try:
         done = subprocess.run([lister, *arguments], cwd=folder, input=calls or b"", capture_output=True,
                               timeout=SECONDS)
@@ -45,7 +51,7 @@ def run(lister, arguments, folder, calls):
         raise Failed(f"does not end within {SECONDS} s") from None
     if done.returncode != 0:
         raise Failed(f"exit code {done.returncode}: {done.stderr[-300:].decode(errors='replace')}")
-    return done.stdout
+    return done
 
 
 def files(folder):
