@@ -39,17 +39,20 @@ class Spoiled:
     def __exit__(self, *_):
         self.held.cleanup()
 
-    def run(self, folder, arguments=(), stdin=None, stdout=subprocess.PIPE, pipe_kills=True, **faults):
-        """Runs it in a folder on its calls, or on an open stdin. `faults` are the variables of faults.c, `at` both FROM and TO."""
+    def run(self, folder, arguments=(), stdin=None, stdout=subprocess.PIPE, closed=None, pipe_kills=True, **faults):
+        """Runs it in a folder on its calls, or on an open stdin, or with a descriptor closed. `faults` are the variables of faults.c,
+        `at` both FROM and TO."""
         environment = dict(os.environ)
         if faults:
             self.count.write_text("0")
             faults |= {"count": self.count} | ({"from": faults["at"], "to": faults["at"]} if "at" in faults else {})
             environment |= {"LD_PRELOAD": str(self.library)} | {"FAULT_" + name.upper(): str(value) for name, value in faults.items()}
+        close = None if closed is None else lambda: os.close(closed)
         with open(folder / "calls", "rb") as calls:
             try:
                 done = subprocess.run([self.lister, *arguments], cwd=folder, stdin=calls if stdin is None else stdin, stdout=stdout,
-                                      stderr=subprocess.PIPE, env=environment, timeout=SECONDS, restore_signals=pipe_kills)
+                                      stderr=subprocess.PIPE, env=environment, timeout=SECONDS, restore_signals=pipe_kills,
+                                      preexec_fn=close)
             except subprocess.TimeoutExpired as late:
                 return Done(late.stdout, late.stderr, None)
         done = Done(done.stdout, done.stderr, done.returncode, int(self.count.read_text()) if faults else 0)
