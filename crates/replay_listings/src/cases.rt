@@ -9,9 +9,9 @@ ghost use Prim.Native.Nat.{_≤_, _<_};
 ghost use mathlib.Core.Path.{_≡_};
 ghost use lib.ListN.{length};
 
-// What became of a case: its lines that are the same, 1 where it differs, and whether it was there as a whole.
+// What became of a case: its bytes where they are the same, 1 where it differs, and whether it was there as a whole.
 pub(crate) struct Outcome {
-    pub lines: u64,
+    pub bytes: u64,
     pub different: u64,
     pub whole: bool,
 }
@@ -23,17 +23,17 @@ fn report(what: &[u8], number: u64) {
 
 // No case, or none that can be judged.
 pub(crate) fn no_case() -> Outcome
-    ensures { λ r. ⌜ (r .lines ≡ 0) × (r .different ≡ 0) ⌝ }
+    ensures { λ r. ⌜ (r .bytes ≡ 0) × (r .different ≡ 0) ⌝ }
 {
     Outcome {
-        lines: 0,
+        bytes: 0,
         different: 0,
         whole: false,
     }
 }
 
 pub(crate) fn cut_off(number: u64) -> Outcome
-    ensures { λ r. ⌜ (r .lines ≡ 0) × (r .different ≡ 0) ⌝ }
+    ensures { λ r. ⌜ (r .bytes ≡ 0) × (r .different ≡ 0) ⌝ }
 {
     report(b"not whole or too long: case ", number);
     io::write_all(STDOUT_FILENO, b"\n");
@@ -42,14 +42,14 @@ pub(crate) fn cut_off(number: u64) -> Outcome
 
 // The number of four bytes at i.
 fn size_at(sizes: &[u8; 16], i: usize) -> usize
-    requires { ⌜ i ≤ 12 ⌝ }
+    ensures { λ r. ⌜ r < 4294967296 ⌝ }
 {
     u32_at(sizes, i) as usize
 }
 
 // Reads a case behind its four lengths, lists it and compares.
 pub(crate) fn replay_case(number: u64, sizes: &[u8; 16]) -> Outcome
-    ensures { λ r. ⌜ (r .lines < 1000000000) × (r .different ≤ 1) ⌝ }
+    ensures { λ r. ⌜ (r .bytes < 4294967296) × (r .different ≤ 1) ⌝ }
 {
     let mut deck = room();
     let mut window = room();
@@ -60,20 +60,24 @@ pub(crate) fn replay_case(number: u64, sizes: &[u8; 16]) -> Outcome
     if d != size_at(sizes, 0) || w != size_at(sizes, 4) || c != size_at(sizes, 8) {
         return cut_off(number);
     }
-    let compared = compare_listing(&deck[..d], &window[..w], &calls[..c], size_at(sizes, 12));
+    let stored = size_at(sizes, 12);
+    let compared = compare_listing(&deck[..d], &window[..w], &calls[..c], stored);
     if compared.same {
         return Outcome {
-            lines: compared.lines,
+            bytes: stored as u64,
             different: 0,
             whole: true,
         };
     }
     report(b"different: case ", number);
-    report(b" line ", compared.lines + 1);
+    report(
+        b", in the last bytes, of which there are ",
+        compared.left as u64,
+    );
     io::write_all(STDOUT_FILENO, b"\n");
     skip(compared.left);
     Outcome {
-        lines: compared.lines,
+        bytes: 0,
         different: 1,
         whole: true,
     }

@@ -7,11 +7,11 @@ use Rattle.replay_listings.proofs.replay_all.Statement.{statement}
 use Rattle.replay_listings.proofs.replay_all.Tie as tie
 
 abbrev Inv-loop : tie.InvT-loop
-Inv-loop cases₀ lines₀ different₀ cases lines different =
-    (cases ≤ 1000000000) × (lines ≤ cases * 1000000000) × (different ≤ cases)
+Inv-loop cases₀ bytes₀ different₀ cases bytes different =
+    (cases ≤ 1000000000) × (bytes ≤ cases * 4294967296) × (different ≤ cases)
 
 abbrev μ-loop : tie.MeasureT-loop
-μ-loop cases₀ lines₀ different₀ cases lines different = 1000000000 - cases
+μ-loop cases₀ bytes₀ different₀ cases bytes different = 1000000000 - cases
 
 loop-holds : tie.Need-loop-holds Inv-loop μ-loop
 loop-holds c = omega arith
@@ -25,8 +25,8 @@ next-case-requires c κs = search needs
 add-cases : tie.Need-add-cases Inv-loop μ-loop
 add-cases c = omega arith
 
-add-lines : tie.Need-add-lines Inv-loop μ-loop
-add-lines c = omega arith
+add-bytes : tie.Need-add-bytes Inv-loop μ-loop
+add-bytes c = omega arith
 
 add-different : tie.Need-add-different Inv-loop μ-loop
 add-different c = omega arith
@@ -53,7 +53,7 @@ replay-all-spec =
     add-next-case
     next-case-requires
     add-cases
-    add-lines
+    add-bytes
     add-different
     loop-less
     loop-again
