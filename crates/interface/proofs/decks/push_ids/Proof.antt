@@ -4,6 +4,7 @@ use Prim.Native.Nat.{_-_}
 use native.Mathlib.Omega.{arith}
 use denote.Ref.{now}
 use Rattle.common.proofs.Stored.{pushed-length}
+use Rattle.deck.proofs.RowOrder.{rows-inside, rows-ordered}
 use Rattle.interface.proofs.Collecting.{Collected, collected-none, collected-more, collected-all}
 use Rattle.interface.proofs.decks.push_ids.Statement.{statement}
 use Rattle.interface.proofs.decks.push_ids.Tie as tie
@@ -36,18 +37,18 @@ push-id-requires : tie.Need-push-id-requires Inv-loop μ-loop
 push-id-requires c κs = let f = c .before .before .before .before .before .loop .inv .few in let w = c .before .before .before .before .before .loop .inv .within in omega arith
 
 rows-at-requires : tie.Need-rows-at-requires Inv-loop μ-loop
-rows-at-requires c κs = omega arith
+rows-at-requires c κs = tt
 
 loop-less : tie.Need-loop-less Inv-loop μ-loop
-loop-less c = let o = c .rows-at .ensures .1 in let t = c .before .before .before .before .before .before .before .before .loop-test in omega arith
+loop-less c = let o = rows-ordered (now (c .before .before .before .before .before .before .before .before .before .before .before .args .kinds)) (c .before .before .before .before .before .before .before .before .before .loop .k) (omega arith) (c .rows-at .ensures) in let t = c .before .before .before .before .before .before .before .before .loop-test in omega arith
 
 loop-again : tie.Need-loop-again Inv-loop μ-loop
 loop-again c =
     let b = c .before .before .before .before .before .before .before .before .before .before .before in let l = c .before .before .before .before .before .before .before .before .before .loop in
-    let o = c .rows-at .ensures .1 in
+    let o = rows-ordered (now (b .args .kinds)) (l .k) (omega arith) (c .rows-at .ensures) in
     let t = c .before .before .before .before .before .before .before .before .loop-test in
     collected-more (now (b .args .kinds)) (now (b .args .numbers)) (now (b .args .ids)) (l .ids) (c .before .before .before .push-id .last .0) (l .n) (c .before .before .before .push-id .result) (l .k) (c .rows-at .result)
-    (l .inv) (omega arith) (c .before .before .before .before .before .before .if1 .left) (c .before .before .before .push-id .ensures) (c .rows-at .ensures .0) (omega arith)
+    (l .inv) (omega arith) (c .before .before .before .before .before .before .if1 .left) (c .before .before .before .push-id .ensures) (rows-inside (now (b .args .kinds)) (l .k) (omega arith) (c .rows-at .ensures)) (omega arith)
 
 same-length-2 : tie.Need-same-length-2 Inv-loop μ-loop
 same-length-2 c = pushed-length (c .before .loop .inv .pushed)
