@@ -48,11 +48,13 @@ module _ (s e p : ℕ) where
   donor-yes : e ≡ p → s + 1 ≡ p → spillsInto donorWindow (interval p (p + 1)) (interval s e) ≡ true
   donor-yes h g = hit-by s e s (s + 2) p (omega arith) (omega arith) (omega arith) (rw (le-ltb p e (omega arith)))
 
-  pub donor-no : (e ≡ p → ⊥) → false ≡ spillsInto donorWindow (interval p (p + 1)) (interval s e)
-  donor-no h = same-test false (spillsInto donorWindow (interval p (p + 1)) (interval s e)) (λ x. absurd (true-false (sym x))) (λ x. absurd (h (donor-only x .0)))
+  pub donor-no : (e ≡ p → s + 1 ≡ p → ⊥) → false ≡ spillsInto donorWindow (interval p (p + 1)) (interval s e)
+  donor-no h = same-test false (spillsInto donorWindow (interval p (p + 1)) (interval s e)) (λ x. absurd (true-false (sym x))) (λ x. absurd (h (donor-only x .0) (donor-only x .1)))
 
-  pub donor-at : e ≡ p → eqb (s + 1) p ≡ spillsInto donorWindow (interval p (p + 1)) (interval s e)
-  donor-at h = same-test (eqb (s + 1) p) (spillsInto donorWindow (interval p (p + 1)) (interval s e)) (λ x. donor-yes h (eqb-true (s + 1) p x)) (λ x. eq-eqb (s + 1) p (donor-only x .1))
+  pub donor-at : e ≡ p → s < p → eqb (p - s) 1 ≡ spillsInto donorWindow (interval p (p + 1)) (interval s e)
+  donor-at h l = same-test (eqb (p - s) 1) (spillsInto donorWindow (interval p (p + 1)) (interval s e))
+      (λ x. let y = eqb-true (p - s) 1 x in donor-yes h (omega arith))
+      (λ x. let y = donor-only x .1 in eq-eqb (p - s) 1 (omega arith))
 
   -- the acceptor window reaches the base before it
   pub acceptor-only : spillsInto acceptorWindow (interval p (p + 1)) (interval s e) ≡ true → (s ≡ p + 1) × (e ≡ p + 2)
@@ -73,8 +75,10 @@ module _ (s e p : ℕ) where
   acceptor-yes : s ≡ p + 1 → e ≡ p + 2 → spillsInto acceptorWindow (interval p (p + 1)) (interval s e) ≡ true
   acceptor-yes h g = hit-by s e (e - 2) e p (omega arith) (omega arith) (omega arith) (rw (lt-ltb p e (omega arith), le-ltb s (p + 1) (omega arith)))
 
-  pub acceptor-no : (s ≡ p + 1 → ⊥) → false ≡ spillsInto acceptorWindow (interval p (p + 1)) (interval s e)
-  acceptor-no h = same-test false (spillsInto acceptorWindow (interval p (p + 1)) (interval s e)) (λ x. absurd (true-false (sym x))) (λ x. absurd (h (acceptor-only x .0)))
+  pub acceptor-no : (s ≡ p + 1 → e ≡ p + 2 → ⊥) → false ≡ spillsInto acceptorWindow (interval p (p + 1)) (interval s e)
+  acceptor-no h = same-test false (spillsInto acceptorWindow (interval p (p + 1)) (interval s e)) (λ x. absurd (true-false (sym x))) (λ x. absurd (h (acceptor-only x .0) (acceptor-only x .1)))
 
-  pub acceptor-at : s ≡ p + 1 → eqb e (p + 2) ≡ spillsInto acceptorWindow (interval p (p + 1)) (interval s e)
-  acceptor-at h = same-test (eqb e (p + 2)) (spillsInto acceptorWindow (interval p (p + 1)) (interval s e)) (λ x. acceptor-yes h (eqb-true e (p + 2) x)) (λ x. eq-eqb e (p + 2) (acceptor-only x .1))
+  pub acceptor-at : s ≡ p + 1 → s < e → eqb (e - s) 1 ≡ spillsInto acceptorWindow (interval p (p + 1)) (interval s e)
+  acceptor-at h l = same-test (eqb (e - s) 1) (spillsInto acceptorWindow (interval p (p + 1)) (interval s e))
+      (λ x. let y = eqb-true (e - s) 1 x in acceptor-yes h (omega arith))
+      (λ x. let y = acceptor-only x .1 in eq-eqb (e - s) 1 (omega arith))

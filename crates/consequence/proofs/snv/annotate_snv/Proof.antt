@@ -14,7 +14,7 @@ use Rattle.transcript.specs.Bases.{gaps}
 use Rattle.transcript.specs.Admission.{admission}
 use Rattle.transcript.proofs.Asking.{refused-some, number-is, admitted-is}
 use Rattle.footprint.specs.ShortIntron.{isFrameshiftGap}
-use Rattle.locate.proofs.LentTranscript.{ad, exons-are}
+use Rattle.locate.proofs.LentTranscript.{exons-are}
 use Rattle.locate.proofs.LentIndex.{exons-summed, cds-summed}
 use Rattle.consequence.specs.Window.{Window}
 use Rattle.consequence.proofs.Calling.{not-admitted}
@@ -59,7 +59,7 @@ returns c =
     not-admitted sourceRanges (transcript b) (window b) (b .args .call) (c .refusal-number .result) (omega arith) e
 
 has-frameshift-intron-requires : tie.Need-has-frameshift-intron-requires
-has-frameshift-intron-requires c κs = let k = on (c .before .before .before .before .before .before .before .before .before .before .before) ad (admitted c) in (k .even, k .edges)
+has-frameshift-intron-requires c κs = search needs
 
 sum-up-requires : tie.Need-sum-up-requires
 sum-up-requires c κs = ((refl, refl), admitted (c .before .before .before))

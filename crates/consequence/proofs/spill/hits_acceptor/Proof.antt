@@ -26,7 +26,7 @@ sub-acceptor-spill : tie.Need-sub-acceptor-spill
 sub-acceptor-spill c = search needs
 
 acceptor-spill-requires : tie.Need-acceptor-spill-requires
-acceptor-spill-requires c κs = let b = c .before .before .before .before in let m = b .pre .1 .0 .0 in (b .pre .0 .even, (b .pre .0 .edges, (omega arith, b .pre .1 .1)))
+acceptor-spill-requires c κs = search needs
 
 returns-3 : tie.Need-returns-3
 returns-3 c =

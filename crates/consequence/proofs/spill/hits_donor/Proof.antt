@@ -1,5 +1,6 @@
 -- `consequence::spill::hits_donor` meets its contract.
 -- Assumes nothing.
+use borrow.Author.Needs.{needs}
 use Rattle.consequence.proofs.BesideSpills.{no-donor, one-donor}
 use mathlib.Core.Path.{_∙_}
 use Rattle.locate.proofs.Searching.{ascends, count}
@@ -16,7 +17,7 @@ returns c =
     no-donor (lentExons (b .args .strand) (now (b .args .starts)) (now (b .args .ends))) (b .args .p) (b .args .n) (ascends (b .args .strand) (now (b .args .starts)) (now (b .args .ends)) (b .pre .0)) (omega arith) (b .pre .1 .1) (omega arith)
 
 donor-spill-requires : tie.Need-donor-spill-requires
-donor-spill-requires c κs = let b = c .before .before .before in let m = b .pre .1 .0 in (b .pre .0 .even, (b .pre .0 .edges, omega arith))
+donor-spill-requires c κs = search needs
 
 returns-2 : tie.Need-returns-2
 returns-2 c =

@@ -24,7 +24,7 @@ abbrev gs : tie.Start Inv-loop μ-loop → List Interval
 gs b = lentGaps (b .args .strand) (now (b .args .starts)) (now (b .args .ends))
 
 in-gaps : (b : tie.Start Inv-loop μ-loop) (i : ℕ) → i + 1 < length (now (b .args .starts)) → i < length (gs b)
-in-gaps b i l = gap-in (b .args .strand) (now (b .args .starts)) (now (b .args .ends)) (b .pre .0) i l
+in-gaps b i l = let q = b .pre .0 in gap-in (b .args .strand) (now (b .args .starts)) (now (b .args .ends)) i l (omega arith)
 
 loop-holds : tie.Need-loop-holds Inv-loop μ-loop
 loop-holds c = (omega arith, refl)
@@ -33,7 +33,7 @@ add-loop : tie.Need-add-loop Inv-loop μ-loop
 add-loop c = omega arith
 
 gap-after-requires : tie.Need-gap-after-requires Inv-loop μ-loop
-gap-after-requires c κs = let b = c .before .before .before .before in (b .pre .0, (b .pre .1 .0, omega arith))
+gap-after-requires c κs = let q = c .before .before .before .before .pre .0 in (omega arith, omega arith)
 
 ends-in-requires : tie.Need-ends-in-requires Inv-loop μ-loop
 ends-in-requires c κs = c .before .before .before .before .before .pre .1 .1 .1
@@ -67,7 +67,8 @@ returns-2 : tie.Need-returns-2 Inv-loop μ-loop
 returns-2 c =
     let b = c .before .before .before .before in
     let l = c .before .loop in
-    let e = gap-end (b .args .strand) (now (b .args .starts)) (now (b .args .ends)) (b .pre .0) (l .i) (l .inv .0) (omega arith) in
+    let even = b .pre .0 in let i = l .inv .0 in
+    let e = gap-end (b .args .strand) (now (b .args .starts)) (now (b .args .ends)) (l .i) (omega arith) (omega arith) in
     λ t h. rw h (endpoint-none (spanOf (b .args .q)) (gs b) (l .i) e ∙ l .inv .1)
 
 pub endpoint-of-spec : {M : Type 1} → statement M

@@ -6,8 +6,7 @@ use denote.Ref.{now}
 use lib.ListN.{getD}
 use Rattle.transcript.specs.Orient.{interval}
 use Rattle.transcript.proofs.Orient.{orient-high}
-use Rattle.transcript.proofs.Listed.{edges-at}
-use Rattle.footprint.proofs.GapList.{gap-at}
+use Rattle.footprint.proofs.GapList.{gap-at, end-low}
 use borrow.Author.Needs.{needs}
 use Rattle.footprint.proofs.gaps.gap_after.Statement.{statement}
 use Rattle.footprint.proofs.gaps.gap_after.Tie as tie
@@ -48,10 +47,9 @@ start-of-requires c κs = search needs
 returns : tie.Need-returns
 returns c =
     let b = c .before .before .before .before .before .before .before .before in
-    let ss = now (b .args .starts) in let es = now (b .args .ends) in let i = b .args .i in
-    let m = edges-at ss es i (b .pre .1 .0) (b .pre .0) (omega arith) in (
-      (λ j. interval (c .before .before .before .end-of .ensures j) (c .start-of .ensures j)) ∙ sym (gap-at (b .args .strand) ss es (b .pre .0) i (omega arith)),
-      rw (c .before .before .before .end-of .ensures) (orient-high (b .args .strand) (getD ss i 0) (getD es i 0) (m .1)),
+    let ss = now (b .args .starts) in let es = now (b .args .ends) in let i = b .args .i in (
+      (λ j. interval (c .before .before .before .end-of .ensures j) (c .start-of .ensures j)) ∙ sym (gap-at (b .args .strand) ss es i (b .pre .0) (b .pre .1)),
+      (λ h. rw (c .before .before .before .end-of .ensures) (orient-high (b .args .strand) (getD ss i 0) (getD es i 0) (end-low ss es i h (omega arith) (omega arith)))),
     )
 
 pub gap-after-spec : {M : Type 1} → statement M

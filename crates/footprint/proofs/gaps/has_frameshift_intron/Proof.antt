@@ -1,6 +1,6 @@
 -- `footprint::gaps::has_frameshift_intron` meets its contract. The invariant: the gaps from i on decide.
 -- Assumes nothing.
-use Prim.Native.Nat.{ℕ, _+_, _-_, _≤_, _<_}
+use Prim.Native.Nat.{_-_, _≤_, _<_}
 use mathlib.Core.Path.{_≡_, refl, sym, _∙_, ap}
 use mathlib.Core.List.{List}
 use native.Mathlib.Omega.{arith}
@@ -17,16 +17,22 @@ use Rattle.footprint.proofs.gaps.has_frameshift_intron.Statement.{state
 use Rattle.footprint.proofs.gaps.has_frameshift_intron.Tie as tie
 
 abbrev Inv-loop : tie.InvT-loop
-Inv-loop starts ends strand i₀ i = (i ≤ length starts - 1) × (any isFrameshiftGap (drop i (lentGaps strand starts ends)) ≡ any isFrameshiftGap (lentGaps strand starts ends))
+Inv-loop starts ends strand n i₀ i = (i ≤ n - 1) × (any isFrameshiftGap (drop i (lentGaps strand starts ends)) ≡ any isFrameshiftGap (lentGaps strand starts ends))
 
 abbrev μ-loop : tie.MeasureT-loop
-μ-loop starts ends strand i₀ i = length starts - i
+μ-loop starts ends strand n i₀ i = n - i
 
 abbrev gs : tie.Start Inv-loop μ-loop → List Interval
 gs b = lentGaps (b .args .strand) (now (b .args .starts)) (now (b .args .ends))
 
-in-gaps : (b : tie.Start Inv-loop μ-loop) (i : ℕ) → i + 1 < length (now (b .args .starts)) → i < length (gs b)
-in-gaps b i l = gap-in (b .args .strand) (now (b .args .starts)) (now (b .args .ends)) (b .pre .0) i l
+inside : (c : tie.In-loop Inv-loop μ-loop) → c .before .loop .i < length (gs (c .before .before .before .before .before))
+inside c =
+    let b = c .before .before .before .before .before in
+    let e = c .before .before .least .ensures in
+    gap-in (b .args .strand) (now (b .args .starts)) (now (b .args .ends)) (c .before .loop .i) (omega arith) (omega arith)
+
+least-requires : tie.Need-least-requires Inv-loop μ-loop
+least-requires c κs = tt
 
 loop-holds : tie.Need-loop-holds Inv-loop μ-loop
 loop-holds c = (omega arith, refl)
@@ -35,16 +41,16 @@ add-loop : tie.Need-add-loop Inv-loop μ-loop
 add-loop c = omega arith
 
 gap-after-requires : tie.Need-gap-after-requires Inv-loop μ-loop
-gap-after-requires c κs = let b = c .before .before .before .before in (b .pre .0, (b .pre .1, omega arith))
+gap-after-requires c κs = let e = c .before .before .least .ensures in (omega arith, omega arith)
 
 is-frameshift-gap-requires : tie.Need-is-frameshift-gap-requires Inv-loop μ-loop
 is-frameshift-gap-requires c κs = tt
 
 returns : tie.Need-returns Inv-loop μ-loop
 returns c =
-    let b = c .before .before .before .before .before .before .before in
+    let b = c .before .before .before .before .before .before .before .before in
     let l = c .before .before .before .before .loop in
-    sym (any-stop isFrameshiftGap (gs b) (l .i) nowhere (in-gaps b (l .i) (omega arith)) (ap isFrameshiftGap (sym (c .before .before .gap-after .ensures .0)) ∙ sym (c .before .is-frameshift-gap .ensures) ∙ c .if1 .taken)) ∙ l .inv .1
+    sym (any-stop isFrameshiftGap (gs b) (l .i) nowhere (inside (c .before .before .before)) (ap isFrameshiftGap (sym (c .before .before .gap-after .ensures .0)) ∙ sym (c .before .is-frameshift-gap .ensures) ∙ c .if1 .taken)) ∙ l .inv .1
 
 add-i : tie.Need-add-i Inv-loop μ-loop
 add-i c = omega arith
@@ -54,17 +60,18 @@ loop-less c = omega arith
 
 loop-again : tie.Need-loop-again Inv-loop μ-loop
 loop-again c =
-    let b = c .before .before .before .before .before .before .before in
+    let b = c .before .before .before .before .before .before .before .before in
     let l = c .before .before .before .before .loop in (
       omega arith,
-      sym (any-go isFrameshiftGap (gs b) (l .i) nowhere (in-gaps b (l .i) (omega arith)) (ap isFrameshiftGap (sym (c .before .before .gap-after .ensures .0)) ∙ sym (c .before .is-frameshift-gap .ensures) ∙ c .if1 .left)) ∙ l .inv .1,
+      sym (any-go isFrameshiftGap (gs b) (l .i) nowhere (inside (c .before .before .before)) (ap isFrameshiftGap (sym (c .before .before .gap-after .ensures .0)) ∙ sym (c .before .is-frameshift-gap .ensures) ∙ c .if1 .left)) ∙ l .inv .1,
     )
 
 returns-2 : tie.Need-returns-2 Inv-loop μ-loop
 returns-2 c =
-    let b = c .before .before .before .before in
+    let b = c .before .before .before .before .before in
     let l = c .before .loop in
-    sym (any-end isFrameshiftGap (gs b) (l .i) (gap-end (b .args .strand) (now (b .args .starts)) (now (b .args .ends)) (b .pre .0) (l .i) (l .inv .0) (omega arith))) ∙ l .inv .1
+    let e = c .before .before .least .ensures in
+    sym (any-end isFrameshiftGap (gs b) (l .i) (gap-end (b .args .strand) (now (b .args .starts)) (now (b .args .ends)) (l .i) (omega arith) (omega arith))) ∙ l .inv .1
 
 pub has-frameshift-intron-spec : {M : Type 1} → statement M
 has-frameshift-intron-spec =
@@ -72,6 +79,7 @@ has-frameshift-intron-spec =
     (tie.spec
     Inv-loop
     μ-loop
+    least-requires
     loop-holds
     add-loop
     gap-after-requires

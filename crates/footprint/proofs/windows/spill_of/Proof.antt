@@ -27,7 +27,7 @@ abbrev gs : tie.Start Inv-loop μ-loop → List Interval
 gs b = lentGaps (b .args .strand) (now (b .args .starts)) (now (b .args .ends))
 
 in-gaps : (b : tie.Start Inv-loop μ-loop) (i : ℕ) → i + 1 < length (now (b .args .starts)) → i < length (gs b)
-in-gaps b i l = gap-in (b .args .strand) (now (b .args .starts)) (now (b .args .ends)) (b .pre .0) i l
+in-gaps b i l = let q = b .pre .0 in gap-in (b .args .strand) (now (b .args .starts)) (now (b .args .ends)) i l (omega arith)
 
 loop-holds : tie.Need-loop-holds Inv-loop μ-loop
 loop-holds c = (omega arith, refl, refl)
@@ -36,10 +36,10 @@ add-loop : tie.Need-add-loop Inv-loop μ-loop
 add-loop c = omega arith
 
 gap-after-requires : tie.Need-gap-after-requires Inv-loop μ-loop
-gap-after-requires c κs = let b = c .before .before .before .before in (b .pre .0, (b .pre .1, omega arith))
+gap-after-requires c κs = let q = c .before .before .before .before .pre .0 in (omega arith, omega arith)
 
 donor-window-requires : tie.Need-donor-window-requires Inv-loop μ-loop
-donor-window-requires c κs = c .gap-after .ensures .1
+donor-window-requires c κs = c .gap-after .ensures .1 (c .before .before .before .before .before .pre .1)
 
 spills-into-requires : tie.Need-spills-into-requires Inv-loop μ-loop
 spills-into-requires c κs = tt
@@ -80,7 +80,8 @@ returns c =
     let b = c .before .before .before .before in
     let l = c .before .loop in
     let q = interval (b .args .from) (b .args .to) in
-    let e = gap-end (b .args .strand) (now (b .args .starts)) (now (b .args .ends)) (b .pre .0) (l .i) (l .inv .0) (omega arith) in
+    let even = b .pre .0 in let i = l .inv .0 in
+    let e = gap-end (b .args .strand) (now (b .args .starts)) (now (b .args .ends)) (l .i) (omega arith) (omega arith) in
     let d = gathered-end donorWindow q (gs b) (l .donor) (l .i) (l .inv .1) e in
     let a = gathered-end acceptorWindow q (gs b) (l .acceptor) (l .i) (l .inv .2) e in
     λ t h. rw h (λ j. record { donor = d j; acceptor = a j })

@@ -5,7 +5,6 @@ use mathlib.Core.List.{List}
 use Prim.Native.Nat.{ℕ}
 use denote.Ref.{now}
 use Rattle.transcript.specs.declared.TranscriptModel.{TranscriptModel}
-use Rattle.locate.proofs.LentTranscript.{ad}
 use Rattle.locate.proofs.LentIndex.{exons-summed, cds-summed, coded, codons}
 use borrow.Author.Needs.{needs}
 use Rattle.locate.proofs.index.index_of.Statement.{statement}
@@ -27,7 +26,7 @@ slice-aggregate-scalars-of-2 : tie.Need-slice-aggregate-scalars-of-2
 slice-aggregate-scalars-of-2 c = search needs
 
 has-frameshift-intron-requires : tie.Need-has-frameshift-intron-requires
-has-frameshift-intron-requires c κs = let b = c .before .before .before .before .before .before .before .before .before .before .before .before in let k = on b ad (b .pre) in (k .even, k .edges)
+has-frameshift-intron-requires c κs = search needs
 
 scalars-of-requires : tie.Need-scalars-of-requires
 scalars-of-requires c κs =
