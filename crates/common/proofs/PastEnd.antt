@@ -1,11 +1,11 @@
 -- Little-endian numbers at the end of the bytes: what stands past it counts nothing.
 -- Assumes nothing.
-use Prim.Native.Nat.{ℕ, _+_, _*_, _≤_, _<_}
-use mathlib.Core.Path.{_≡_, sym, _∙_}
+use Prim.Native.Nat.{ℕ, _+_, _≤_, _<_}
+use mathlib.Core.Path.{_≡_}
 use mathlib.Core.List.{List}
 use native.Mathlib.Omega.{arith}
 use lib.ListN.{length, getD, List·getD-eq-default}
-use Rattle.common.specs.Little.{at1, at2, at4, at8}
+use Rattle.common.specs.Little.{at2, at4, at8}
 
 module _ (s : List ℕ) (i : ℕ) where
   pub last-byte : length s < i + 2 → getD s i 0 ≡ at2 s i

@@ -1,10 +1,10 @@
 -- Parts of a column whose rows are not in order, or lie behind its end.
 -- Assumes nothing.
 use Prim.Native.Nat.{ℕ, _-_, _≤_, min}
-use mathlib.Core.Path.{_≡_, sym, _∙_, ap}
+use mathlib.Core.Path.{_≡_, sym, _∙_}
 use mathlib.Core.List.{List, []}
 use native.Mathlib.Omega.{arith}
-use lib.ListN.{length, take, drop, length-take, length-drop}
+use lib.ListN.{length, drop, length-take, length-drop}
 use lib.Dec.{leb}
 use lib.Seq.{take-all, take-nil}
 use borrow.Author.Tests.{leb-true, leb-false}
