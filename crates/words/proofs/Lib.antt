@@ -1,2 +1,3 @@
 pub mod Putting
 pub mod WordLengths
+pub mod Capping

@@ -2,6 +2,7 @@
 use crate::columns::put_columns;
 use crate::located::put_row;
 use crate::row::row_of;
+use crate::words::has_room;
 use crate::words::put_counts;
 use consequence::Called;
 use consequence::ConsequenceResult;
@@ -11,11 +12,12 @@ ghost use lib.ListN.{length};
 ghost use lib.Seq.{sets};
 ghost use Rattle.consequence.specs.declared.Called.{Called};
 ghost use Rattle.consequence.specs.Numbers.{calledWords};
-ghost use Rattle.words.specs.code.Near.{Near, NearCalled};
+ghost use Rattle.words.specs.code.Put.{putAt};
+ghost use Rattle.words.specs.code.Near.{cappedWords};
 
 fn put_result(out: &mut [i64], at: usize, a: ConsequenceResult)
-    requires { ⌜ (at + 20 ≤ length (now out)) × Near (a .location) ⌝ }
-    ensures { λ _. ⌜ now out.exit ≡ sets (now out.entry) at (calledWords (Called.Answered a)) ⌝ }
+    requires { ⌜ at + 20 ≤ length (now out) ⌝ }
+    ensures { λ _. ⌜ now out.exit ≡ sets (now out.entry) at (cappedWords (Called.Answered a)) ⌝ }
 {
     let place = a.location;
     put_row(out, at, row_of(place));
@@ -35,12 +37,21 @@ fn put_refusal(out: &mut [i64], at: usize, n: u8)
 }
 
 // An answer as 20 numbers.
-pub fn put_called(out: &mut [i64], at: usize, called: Called)
-    requires { ⌜ (at + 20 ≤ length (now out)) × NearCalled called ⌝ }
-    ensures { λ _. ⌜ now out.exit ≡ sets (now out.entry) at (calledWords called) ⌝ }
+fn store_called(out: &mut [i64], at: usize, called: Called)
+    requires { ⌜ at + 20 ≤ length (now out) ⌝ }
+    ensures { λ _. ⌜ now out.exit ≡ sets (now out.entry) at (cappedWords called) ⌝ }
 {
     match called {
         Called::Answered(a) => put_result(out, at, a),
         Called::Refused(n) => put_refusal(out, at, n),
+    }
+}
+
+// The same in any buffer. Where the numbers do not fit nothing is stored.
+pub fn put_called(out: &mut [i64], at: usize, called: Called)
+    ensures { λ _. ⌜ now out.exit ≡ putAt (now out.entry) at (cappedWords called) ⌝ }
+{
+    if has_room(out.len(), at, 20) {
+        store_called(out, at, called);
     }
 }

@@ -1,6 +1,7 @@
 // The answer to the question of a place as numbers.
 use crate::row::Row;
 use crate::row::row_of;
+use crate::words::has_room;
 use crate::words::put_counts;
 use crate::words::put4;
 use crate::words::signed;
@@ -14,7 +15,8 @@ ghost use lib.Seq.{sets};
 ghost use Rattle.locate.specs.declared.Located.{Located};
 ghost use Rattle.locate.specs.Numbers.{locatedWords};
 ghost use Rattle.words.specs.code.Row.{rowWords};
-ghost use Rattle.words.specs.code.Near.{NearAt};
+ghost use Rattle.words.specs.code.Put.{putAt};
+ghost use Rattle.words.specs.code.Near.{cappedAt};
 
 // A place behind the number 0.
 pub(crate) fn put_row(out: &mut [i64], at: usize, row: Row)
@@ -39,12 +41,21 @@ fn put_refusal(out: &mut [i64], at: usize, n: u8)
 }
 
 // An answer as 8 numbers.
-pub fn put_located(out: &mut [i64], at: usize, located: Located)
-    requires { ⌜ (at + 8 ≤ length (now out)) × NearAt located ⌝ }
-    ensures { λ _. ⌜ now out.exit ≡ sets (now out.entry) at (locatedWords located) ⌝ }
+fn store_located(out: &mut [i64], at: usize, located: Located)
+    requires { ⌜ at + 8 ≤ length (now out) ⌝ }
+    ensures { λ _. ⌜ now out.exit ≡ sets (now out.entry) at (locatedWords (cappedAt located)) ⌝ }
 {
     match located {
         Located::At(place) => put_row(out, at, row_of(place)),
         Located::Refused(n) => put_refusal(out, at, n),
+    }
+}
+
+// The same in any buffer. Where the numbers do not fit nothing is stored.
+pub fn put_located(out: &mut [i64], at: usize, located: Located)
+    ensures { λ _. ⌜ now out.exit ≡ putAt (now out.entry) at (locatedWords (cappedAt located)) ⌝ }
+{
+    if has_room(out.len(), at, 8) {
+        store_located(out, at, located);
     }
 }

@@ -1,4 +1,5 @@
 // A place as a row of numbers.
+use crate::words::cap;
 use crate::words::signed;
 use locate::SpliceSide;
 use locate::VariantLocation;
@@ -8,7 +9,7 @@ ghost use lib.IntN.{pos};
 ghost use Rattle.common.specs.Flag.{flag};
 ghost use Rattle.locate.specs.Numbers.{sideNumber, plainWords, placeWords};
 ghost use Rattle.words.specs.code.Row.{rowWords};
-ghost use Rattle.words.specs.code.Near.{Near};
+ghost use Rattle.words.specs.code.Near.{cappedPlace};
 
 // The numbers of a place. All but the distance count.
 pub(crate) struct Row {
@@ -52,12 +53,11 @@ fn plain(kind: u32, mark: u32, index: u16, distance: i64) -> Row
 }
 
 pub(crate) fn row_of(place: VariantLocation) -> Row
-    requires { ⌜ Near place ⌝ }
-    ensures { λ r. ⌜ rowWords r ≡ placeWords place ⌝ }
+    ensures { λ r. ⌜ rowWords r ≡ placeWords (cappedPlace place) ⌝ }
 {
     match place {
-        VariantLocation::Upstream { distance } => plain(0, 0, 0, signed(distance as u32)),
-        VariantLocation::Downstream { distance } => plain(1, 0, 0, signed(distance as u32)),
+        VariantLocation::Upstream { distance } => plain(0, 0, 0, signed(cap(distance))),
+        VariantLocation::Downstream { distance } => plain(1, 0, 0, signed(cap(distance))),
         VariantLocation::Distal => plain(2, 0, 0, 0),
         VariantLocation::FivePrimeUtr {
             exon_index,

@@ -4,13 +4,35 @@ ghost use mathlib.Core.Path.{_≡_};
 ghost use mathlib.Core.List.{[], _∷_};
 ghost use lib.ListN.{length};
 ghost use lib.IntN.{pos};
+ghost use lib.Dec.{leb};
 ghost use lib.Seq.{sets};
+ghost use Rattle.words.specs.code.Near.{capped};
 
 // A count as a signed number.
 pub(crate) fn signed(n: u32) -> i64
     ensures { λ r. ⌜ r ≡ pos n ⌝ }
 {
     n as i64
+}
+
+// A distance in 32 bits: the largest number of these where it is more.
+pub(crate) fn cap(d: u64) -> u32
+    ensures { λ r. ⌜ r ≡ capped d ⌝ }
+{
+    if d < 4_294_967_295 {
+        return d as u32;
+    }
+    4_294_967_295
+}
+
+// Whether n numbers fit from a position on.
+pub(crate) fn has_room(len: usize, at: usize, n: usize) -> bool
+    ensures { λ r. ⌜ r ≡ leb (at + n) len ⌝ }
+{
+    if len < n {
+        return false;
+    }
+    at <= len - n
 }
 
 // Four numbers from a position on.

@@ -16,6 +16,8 @@ use Rattle.consequence.specs.Numbers.{calledNumber, calledWords}
 use Rattle.consequence.specs.Call.{annotateSnv}
 use Rattle.words.proofs.Putting.{whole}
 use Rattle.words.proofs.WordLengths.{called-length}
+use Rattle.words.specs.code.Near.{NearCalled}
+use Rattle.words.proofs.Capping.{called-fits}
 use Rattle.interface.proofs.Leaving.{misfit, refused, answered}
 use Rattle.interface.proofs.Answers.{near-called, called-some}
 use borrow.Author.Needs.{needs}
@@ -55,9 +57,7 @@ enum-told : tie.Need-enum-told
 enum-told c = search needs
 
 put-called-requires : tie.Need-put-called-requires
-put-called-requires c κs =
-    let b = c .before .before .before .before .before .before .before .before .before .before .before .before .before in
-    (omega (arith, c .before .before .before .before .if1 .left), rw (c .before .before .before .annotate-snv .ensures) (near-called sourceRanges (transcript b) (window b) (b .args .call) (omega arith)))
+put-called-requires c κs = tt
 
 same-length : tie.Need-same-length
 same-length c = search needs
@@ -67,10 +67,11 @@ returns-3 c =
     let b = c .before .before .before .before .before .before .before .before .before .before .before .before .before .before .before in
     let l = c .before .before .before .before .before .before .if1 .left in
     let e = c .before .before .before .before .before .annotate-snv .ensures in
+    let r : NearCalled (c .before .before .before .before .before .annotate-snv .result) = rw e (near-called sourceRanges (transcript b) (window b) (b .args .call) (omega arith)) in
     let n : length (calledWords (answer b)) ≡ length (now (b .args .out)) = called-length (answer b) ∙ sym l in
     answered (fits b) (calledNumber (answer b)) (calledWords (answer b)) (now (b .args .out)) (eq-eqb (length (now (b .args .out))) 20 l)
     (ap calledNumber (sym e ∙ c .before .before .before .enum-told .given .1)) _
-    (c .before .put-called .ensures ∙ ap (λ (x : Called). sets (now (b .args .out)) 0 (calledWords x)) e ∙ whole (now (b .args .out)) (calledWords (answer b)) n)
+    (c .before .put-called .ensures ∙ called-fits (now (b .args .out)) 0 (c .before .before .before .before .before .annotate-snv .result) (omega (arith, l)) r ∙ ap (λ (x : Called). sets (now (b .args .out)) 0 (calledWords x)) e ∙ whole (now (b .args .out)) (calledWords (answer b)) n)
 
 pub answer-call-spec : {M : Type 1} → statement M
 answer-call-spec =

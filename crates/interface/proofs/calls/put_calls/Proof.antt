@@ -16,6 +16,8 @@ use Rattle.consequence.specs.Call.{annotateSnv}
 use Rattle.consequence.specs.Numbers.{calledWords}
 use Rattle.words.proofs.WordLengths.{called-length}
 use Rattle.interface.specs.Calls.{callOf, callsOf, callWords}
+use Rattle.words.specs.code.Near.{NearCalled}
+use Rattle.words.proofs.Capping.{called-fits}
 use Rattle.interface.proofs.Blocks.{filledTo, filled-none, filled-length, filled-more, filled-all}
 use Rattle.interface.proofs.Answers.{near-called}
 use Rattle.interface.proofs.CallList.{Even, fit-even, fit-room, calls-length, call-at}
@@ -102,13 +104,7 @@ mul-put-called : tie.Need-mul-put-called Inv-loop μ-loop
 mul-put-called c = let e = room (c .before .before .before .before .before .before .before .before .before .before .before .before .before .before .before .before .before .before .before .before .before .before) in let k = count (c .before .before .before .before .before .before .before .before .before .before .before .before .before .before .before .before .before .before .before .before .before .before) in let g = c .before .before .before .before .before .before .before .before .before .before .before .before .before .before .before .before .before .before .before .before .before .before .good .1 .1 .1 .1 .1 .1 .1 .1 .1 .1 .1 .1 .1 .1 .1 .1 .1 .1 .1 .1 .0 in record { fits = omega arith }
 
 put-called-requires : tie.Need-put-called-requires Inv-loop μ-loop
-put-called-requires c κs =
-    let b = c .before .before .before .before .before .before .before .before .before .before .before .before .before .before .before .before .before .before .before .before .before .before in
-    let l = c .before .before .before .before .before .before .before .loop in
-    let k = ap length (l .inv .1) ∙ long b (l .i) (l .inv .0) in
-    let e = room b in
-    let n = count b in
-    (omega arith, rw (c .before .annotate-admitted .ensures) (near-called (b .args .ranges) (transcript b) (window b) (asked b (l .i)) (b .pre .1 .0)))
+put-called-requires c κs = tt
 
 add-i : tie.Need-add-i Inv-loop μ-loop
 add-i c = let g = c .before .before .before .before .before .before .before .before .before .before .before .before .before .before .before .before .before .before .before .before .before .before .before .before .good .1 .1 .1 .1 .1 .0 in record { fits = omega arith }
@@ -119,9 +115,14 @@ loop-less c = omega arith
 loop-again : tie.Need-loop-again Inv-loop μ-loop
 loop-again c =
     let b = c .before .before .before .before .before .before .before .before .before .before .before .before .before .before .before .before .before .before .before .before .before .before .before .before in
-    let l = c .before .before .before .before .before .before .before .before .before .loop in (
+    let l = c .before .before .before .before .before .before .before .before .before .loop in
+    let k = ap length (l .inv .1) ∙ long b (l .i) (l .inv .0) in
+    let e = room b in
+    let m = count b in
+    let n : NearCalled (c .before .before .before .annotate-admitted .result) = rw (c .before .before .before .annotate-admitted .ensures) (near-called (b .args .ranges) (transcript b) (window b) (asked b (l .i)) (b .pre .1 .0)) in (
       omega arith,
       c .before .put-called .ensures
+          ∙ called-fits (l .out) (20 * l .i) (c .before .before .before .annotate-admitted .result) (omega arith) n
           ∙ ap (λ (o : List ℤ). sets o (20 * l .i) (calledWords (c .before .before .before .annotate-admitted .result))) (l .inv .1)
           ∙ ap (λ (x : Called). sets (at b (l .i)) (20 * l .i) (calledWords x)) (c .before .before .before .annotate-admitted .ensures)
           ∙ more b (l .i) (omega arith),

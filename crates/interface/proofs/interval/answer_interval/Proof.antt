@@ -15,6 +15,7 @@ use Rattle.footprint.specs.Ranges.{sourceRanges}
 use Rattle.footprint.specs.Numbers.{flankedNumber}
 use Rattle.footprint.specs.Question.{flank, shortIntron, spill}
 use Rattle.words.specs.IntervalWords.{intervalWords}
+use Rattle.words.proofs.Capping.{interval-fits}
 use Rattle.interface.proofs.Leaving.{misfit, refused, answered}
 use Rattle.interface.proofs.Beside.{near-flanked, flanked-some, alike}
 use borrow.Author.Needs.{needs}
@@ -61,10 +62,7 @@ enum-known-spilled-2 : tie.Need-enum-known-spilled-2
 enum-known-spilled-2 c = search needs
 
 put-interval-requires : tie.Need-put-interval-requires
-put-interval-requires c κs =
-    let b = c .before .before .before .before .before .before .before .before .before .before .before .before .before .before .before .before .before .before in
-    let e : flanked b ≡ Flanked.Beside (c .before .before .before .before .before .flanked2 .given .0 .0) = sym (c .before .before .before .before .before .before .before .before .before .classify-flank .ensures) ∙ c .before .before .before .before .before .flanked2 .given .1 in
-    (c .before .before .before .before .before .before .before .before .before .before .if1 .left, rw e at (near-flanked (transcript b) (b .args .chromosome) (b .args .start) (b .args .end)))
+put-interval-requires c κs = tt
 
 returns-2 : tie.Need-returns-2
 returns-2 c =
@@ -90,7 +88,9 @@ returns-4 c =
     let f : flanked b ≡ Flanked.Beside (c .before .before .before .before .before .before .before .flanked2 .given .0 .0) = sym (c .before .before .before .before .before .before .before .before .before .before .before .classify-flank .ensures) ∙ c .before .before .before .before .before .before .before .flanked2 .given .1 in
     let s : spilled b ≡ Spilled.Spill (c .before .before .before .before .spilled2 .given .0 .0) = sym (c .before .before .before .before .before .before .before .before .before .exonic-splice-spill .ensures) ∙ c .before .before .before .before .spilled2 .given .1 in
     answered (fits b) (flankedNumber (flanked b)) (words b) (now (b .args .out)) (eq-eqb (length (now (b .args .out))) 7 (c .before .before .before .before .before .before .before .before .before .before .before .before .if1 .left)) (ap flankedNumber f) _
-    (c .before .put-interval .ensures ∙ λ k. intervalWords (sym f k) (c .before .before .before .before .before .before .before .before .before .before .frameshift-intron-endpoint .ensures k) (sym s k))
+    (c .before .put-interval .ensures
+    ∙ interval-fits (now (b .args .out)) (c .before .before .before .before .before .before .before .flanked2 .given .0 .0) (c .before .before .before .before .before .before .before .before .before .before .frameshift-intron-endpoint .result) (c .before .before .before .before .spilled2 .given .0 .0) (c .before .before .before .before .before .before .before .before .before .before .before .before .if1 .left) (rw f at (near-flanked (transcript b) (b .args .chromosome) (b .args .start) (b .args .end)))
+    ∙ λ k. intervalWords (sym f k) (c .before .before .before .before .before .before .before .before .before .before .frameshift-intron-endpoint .ensures k) (sym s k))
 
 pub answer-interval-spec : {M : Type 1} → statement M
 answer-interval-spec =

@@ -15,6 +15,8 @@ use Rattle.locate.specs.Numbers.{locatedNumber, locatedWords}
 use Rattle.locate.specs.Query.{locateVariant}
 use Rattle.words.proofs.Putting.{whole}
 use Rattle.words.proofs.WordLengths.{located-length}
+use Rattle.words.specs.code.Near.{NearAt}
+use Rattle.words.proofs.Capping.{located-fits}
 use Rattle.interface.proofs.Nearness.{near-located}
 use Rattle.interface.proofs.Leaving.{misfit, refused, answered}
 use Rattle.interface.proofs.PlaceRefused.{refused-some}
@@ -51,9 +53,7 @@ enum-told : tie.Need-enum-told
 enum-told c = search needs
 
 put-located-requires : tie.Need-put-located-requires
-put-located-requires c κs =
-    let b = c .before .before .before .before .before .before .before .before .before .before .before .before in
-    (omega (arith, c .before .before .before .before .if1 .left), rw (c .before .before .before .locate-variant .ensures) (near-located sourceRanges (omega arith) (transcript b) (b .args .chromosome) (b .args .start) (b .args .end)))
+put-located-requires c κs = tt
 
 same-length : tie.Need-same-length
 same-length c = search needs
@@ -63,7 +63,8 @@ returns-3 c =
     let b = c .before .before .before .before .before .before .before .before .before .before .before .before .before .before in
     let l = c .before .before .before .before .before .before .if1 .left in
     let e = c .before .before .before .before .before .locate-variant .ensures in
-    let k = c .before .put-located .ensures in
+    let r : NearAt (c .before .before .before .before .before .locate-variant .result) = rw e (near-located sourceRanges (omega arith) (transcript b) (b .args .chromosome) (b .args .start) (b .args .end)) in
+    let k = c .before .put-located .ensures ∙ located-fits (b .args .out .now) 0 (c .before .before .before .before .before .locate-variant .result) (omega (arith, l)) r in
     let n : length (locatedWords (answer b)) ≡ length (b .args .out .now) = located-length (answer b) ∙ sym l in
     answered (fits b) (locatedNumber (answer b)) (locatedWords (answer b)) (b .args .out .now) (eq-eqb (length (b .args .out .now)) 8 l)
     (ap locatedNumber (sym e ∙ c .before .before .before .enum-told .given .1)) (c .before .put-located .last .0)

@@ -15,6 +15,8 @@ use Rattle.locate.specs.Query.{locatePosition}
 use Rattle.locate.specs.Numbers.{locatedWords}
 use Rattle.words.proofs.WordLengths.{located-length}
 use Rattle.interface.specs.Lists.{positionWords}
+use Rattle.words.specs.code.Near.{NearAt}
+use Rattle.words.proofs.Capping.{located-fits}
 use Rattle.interface.proofs.Blocks.{filledTo, filled-none, filled-length, filled-more, filled-all}
 use Rattle.interface.proofs.Nearness.{near-located}
 use Rattle.interface.proofs.places.put_places.Statement.{statement}
@@ -66,12 +68,7 @@ mul-put-located : tie.Need-mul-put-located Inv-loop μ-loop
 mul-put-located c = record { fits = omega arith }
 
 put-located-requires : tie.Need-put-located-requires Inv-loop μ-loop
-put-located-requires c κs =
-    let b = c .before .before .before .before .before .before .before .before .before .before .before .before .before .before in
-    let l = c .before .before .before .before .loop in
-    let k = ap length (l .inv .1) ∙ long b (l .i) (l .inv .0) in
-    let e = b .pre .1 .1 in
-    (omega arith, rw (c .before .locate-position .ensures) (near-located (b .args .ranges) (b .pre .1 .0) (transcript b) (b .args .chromosome) (getD (now (b .args .positions)) (l .i) 0) (getD (now (b .args .positions)) (l .i) 0 + 1)))
+put-located-requires c κs = tt
 
 add-i : tie.Need-add-i Inv-loop μ-loop
 add-i c = record { fits = omega arith }
@@ -82,9 +79,14 @@ loop-less c = omega arith
 loop-again : tie.Need-loop-again Inv-loop μ-loop
 loop-again c =
     let b = c .before .before .before .before .before .before .before .before .before .before .before .before .before .before .before .before in
-    let l = c .before .before .before .before .before .before .loop in (
+    let l = c .before .before .before .before .before .before .loop in
+    let k = ap length (l .inv .1) ∙ long b (l .i) (l .inv .0) in
+    let e = b .pre .1 .1 in
+    let p = getD (now (b .args .positions)) (l .i) 0 in
+    let n : NearAt (c .before .before .before .locate-position .result) = rw (c .before .before .before .locate-position .ensures) (near-located (b .args .ranges) (b .pre .1 .0) (transcript b) (b .args .chromosome) p (p + 1)) in (
       omega arith,
       c .before .put-located .ensures
+          ∙ located-fits (l .out) (8 * l .i) (c .before .before .before .locate-position .result) (omega arith) n
           ∙ ap (λ (o : List ℤ). sets o (8 * l .i) (locatedWords (c .before .before .before .locate-position .result))) (l .inv .1)
           ∙ ap (λ (x : Located). sets (at b (l .i)) (8 * l .i) (locatedWords x)) (c .before .before .before .locate-position .ensures)
           ∙ more b (l .i) (omega arith),

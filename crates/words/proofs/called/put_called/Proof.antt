@@ -1,47 +1,31 @@
 -- `words::called::put_called` meets its contract.
 -- Assumes nothing.
-use mathlib.Core.Path.{sym, _∙_, ap}
-use lib.Seq.{sets}
-use denote.Ref.{now}
-use Rattle.consequence.specs.declared.Called.{Called}
-use Rattle.consequence.specs.Numbers.{calledWords}
 use borrow.Author.Needs.{needs}
+use mathlib.Core.Path.{sym, _∙_}
+use borrow.Author.Tests.{leb-true}
+use denote.Ref.{now}
+use Rattle.words.specs.code.Near.{cappedWords}
+use Rattle.words.proofs.Capping.{capped-length, put-all, put-none}
 use Rattle.words.proofs.called.put_called.Statement.{statement}
 use Rattle.words.proofs.called.put_called.Tie as tie
 
-enum-known-called : tie.Need-enum-known-called
-enum-known-called c = search needs
+has-room-requires : tie.Need-has-room-requires
+has-room-requires c κs = search needs
 
-put-result-requires : tie.Need-put-result-requires
-put-result-requires c κs = let b = c .before .before .before .before in (b .pre .0, rw (c .before .before .called .given .1) at (b .pre .1))
-
-enum-known-called-2 : tie.Need-enum-known-called-2
-enum-known-called-2 c = search needs
-
-put-refusal-requires : tie.Need-put-refusal-requires
-put-refusal-requires c κs = search needs
+store-called-requires : tie.Need-store-called-requires
+store-called-requires c κs = let a = c .before .before .before .args in leb-true _ _ (sym (c .before .before .has-room .ensures) ∙ c .before .if1 .taken)
 
 same-length : tie.Need-same-length
 same-length c = search needs
 
 returns : tie.Need-returns
-returns c = let x = c .before .before .before .before .before .before .args in c .before .put-result .ensures ∙ ap (λ (y : Called). sets (now (x .out)) (x .at) (calledWords y)) (sym (c .before .before .before .before .called .given .1))
-
-same-length-2 : tie.Need-same-length-2
-same-length-2 c = search needs
+returns c = let a = c .before .before .before .before .before .args in
+    put-all (now (a .out)) (a .at) (cappedWords (a .called)) (capped-length (a .called)) (sym (c .before .before .before .before .has-room .ensures) ∙ c .before .before .before .if1 .taken) (c .before .store-called .ensures)
 
 returns-2 : tie.Need-returns-2
-returns-2 c = let x = c .before .before .before .before .before .before .args in c .before .put-refusal .ensures ∙ ap (λ (y : Called). sets (now (x .out)) (x .at) (calledWords y)) (sym (c .before .before .before .before .called2 .given .1))
+returns-2 c = let a = c .before .before .args in
+    put-none (now (a .out)) (a .at) (cappedWords (a .called)) (capped-length (a .called)) (sym (c .before .has-room .ensures) ∙ c .if1 .left)
 
 pub put-called-spec : {M : Type 1} → statement M
 put-called-spec =
-    tie.close
-    (tie.spec
-    enum-known-called
-    put-result-requires
-    enum-known-called-2
-    put-refusal-requires
-    same-length
-    returns
-    same-length-2
-    returns-2)
+    tie.close (tie.spec has-room-requires store-called-requires same-length returns returns-2)

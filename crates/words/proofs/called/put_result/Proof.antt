@@ -10,6 +10,7 @@ use Rattle.locate.specs.Numbers.{placeWords}
 use Rattle.consequence.specs.Numbers.{columnWords}
 use Rattle.words.proofs.WordLengths.{place-length}
 use Rattle.words.proofs.Putting.{put-behind}
+use Rattle.words.specs.code.Near.{cappedPlace}
 use borrow.Author.Needs.{needs}
 use Rattle.words.proofs.called.put_result.Statement.{statement}
 use Rattle.words.proofs.called.put_result.Tie as tie
@@ -33,7 +34,7 @@ returns : tie.Need-returns
 returns c =
     let x = c .before .before .before .before .before .before .before .args in
     let l = now (x .out) in
-    let place = x .a .location in
+    let place = cappedPlace (x .a .location) in
     put-behind l (x .at) 8 (pos 0 ∷ placeWords place) (columnWords (x .a)) (ap suc (place-length place))
     (c .before .before .before .before .put-row .ensures ∙ ap (λ (w : List ℤ). sets l (x .at) (pos 0 ∷ w)) (c .before .before .before .before .before .row-of .ensures))
     (c .before .put-columns .ensures)

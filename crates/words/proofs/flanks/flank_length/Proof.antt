@@ -1,7 +1,7 @@
 -- `words::flanks::flank_length` meets its contract.
 -- Assumes nothing.
-use native.Mathlib.Omega.{arith}
 use borrow.Author.Needs.{needs}
+use mathlib.Core.Path.{_∙_}
 use Rattle.words.proofs.flanks.flank_length.Statement.{statement}
 use Rattle.words.proofs.flanks.flank_length.Tie as tie
 
@@ -11,14 +11,14 @@ enum-told c = search needs
 enum-known-flank : tie.Need-enum-known-flank
 enum-known-flank c = search needs
 
-cast-result : tie.Need-cast-result
-cast-result c = let p = rw (c .before .flank .given .1) at (c .before .before .before .pre) in record { fits = omega arith }
+cap-requires : tie.Need-cap-requires
+cap-requires c κs = search needs
 
 enum-known-flank-2 : tie.Need-enum-known-flank-2
 enum-known-flank-2 c = search needs
 
-cast-result-2 : tie.Need-cast-result-2
-cast-result-2 c = let p = rw (c .before .flank2 .given .1) at (c .before .before .before .pre) in record { fits = omega arith }
+cap-requires-2 : tie.Need-cap-requires-2
+cap-requires-2 c κs = search needs
 
 enum-told-2 : tie.Need-enum-told-2
 enum-told-2 c = search needs
@@ -27,10 +27,10 @@ returns : tie.Need-returns
 returns c = search needs
 
 returns-2 : tie.Need-returns-2
-returns-2 c = search needs
+returns-2 c = c .cap .ensures ∙ rw (c .before .before .flank .given .1)
 
 returns-3 : tie.Need-returns-3
-returns-3 c = search needs
+returns-3 c = c .cap2 .ensures ∙ rw (c .before .before .flank2 .given .1)
 
 returns-4 : tie.Need-returns-4
 returns-4 c = search needs
@@ -41,9 +41,9 @@ flank-length-spec =
     (tie.spec
     enum-told
     enum-known-flank
-    cast-result
+    cap-requires
     enum-known-flank-2
-    cast-result-2
+    cap-requires-2
     enum-told-2
     returns
     returns-2

@@ -1,66 +1,34 @@
 -- `words::flanks::put_interval` meets its contract.
 -- Assumes nothing.
-use mathlib.Core.Path.{sym, _∙_}
-use mathlib.Core.List.{[], _∷_, _++_}
-use lib.IntN.{pos}
-use denote.Ref.{now}
-use Rattle.common.specs.Flag.{flag}
-use Rattle.footprint.specs.Numbers.{flankKind, flankLength, endpointFlag, endpointIndex}
-use Rattle.words.proofs.Putting.{put-on, whole}
 use borrow.Author.Needs.{needs}
+use mathlib.Core.Path.{refl, sym, _∙_}
+use borrow.Author.Tests.{leb-true}
+use denote.Ref.{now}
+use Rattle.footprint.specs.declared.Flanked.{Flanked}
+use Rattle.footprint.specs.declared.Spilled.{Spilled}
+use Rattle.words.specs.IntervalWords.{intervalWords}
+use Rattle.words.specs.code.Near.{cappedFlank}
+use Rattle.words.proofs.Capping.{put-all, put-none}
 use Rattle.words.proofs.flanks.put_interval.Statement.{statement}
 use Rattle.words.proofs.flanks.put_interval.Tie as tie
 
-flank-kind-requires : tie.Need-flank-kind-requires
-flank-kind-requires c κs = search needs
+has-room-requires : tie.Need-has-room-requires
+has-room-requires c κs = search needs
 
-flank-length-requires : tie.Need-flank-length-requires
-flank-length-requires c κs = search needs
-
-endpoint-flag-requires : tie.Need-endpoint-flag-requires
-endpoint-flag-requires c κs = search needs
-
-put-counts-requires : tie.Need-put-counts-requires
-put-counts-requires c κs = search needs
-
-endpoint-index-requires : tie.Need-endpoint-index-requires
-endpoint-index-requires c κs = search needs
-
-flag-of-requires : tie.Need-flag-of-requires
-flag-of-requires c κs = search needs
-
-flag-of-requires-2 : tie.Need-flag-of-requires-2
-flag-of-requires-2 c κs = search needs
-
-put-three-requires : tie.Need-put-three-requires
-put-three-requires c κs = search needs
+store-interval-requires : tie.Need-store-interval-requires
+store-interval-requires c κs = leb-true _ _ (sym (c .before .before .has-room .ensures) ∙ c .before .if1 .taken)
 
 same-length : tie.Need-same-length
 same-length c = search needs
 
 returns : tie.Need-returns
-returns c =
-    let b = c .before .before .before .before .before .before .before .before .before .before .before .before in
-    let x = b .args in
-    let l = now (x .out) in
-    let one = pos 0 ∷ pos (flankKind (x .flank)) ∷ pos (flankLength (x .flank)) ∷ pos (endpointFlag (x .e)) ∷ [] in
-    let two = pos (endpointIndex (x .e)) ∷ pos (flag (x .spill .donor)) ∷ pos (flag (x .spill .acceptor)) ∷ [] in
-    put-on l 0 one two
-    (c .before .before .before .before .before .before .before .put-counts .ensures ∙ rw (c .before .before .before .before .before .before .before .before .before .before .flank-kind .ensures, c .before .before .before .before .before .before .before .before .before .flank-length .ensures, c .before .before .before .before .before .before .before .before .endpoint-flag .ensures))
-    (c .before .put-three .ensures ∙ rw (c .before .before .before .before .endpoint-index .ensures, c .before .before .before .flag-of .ensures, c .before .before .flag-of2 .ensures))
-    ∙ whole l (one ++ two) (sym (b .pre .0))
+returns c = let a = c .before .before .before .before .before .args in
+    put-all (now (a .out)) 0 (intervalWords (Flanked.Beside (cappedFlank (a .flank))) (a .e) (Spilled.Spill (a .spill))) {n = 7} refl (sym (c .before .before .before .before .has-room .ensures) ∙ c .before .before .before .if1 .taken) (c .before .store-interval .ensures)
+
+returns-2 : tie.Need-returns-2
+returns-2 c = let a = c .before .before .args in
+    put-none (now (a .out)) 0 (intervalWords (Flanked.Beside (cappedFlank (a .flank))) (a .e) (Spilled.Spill (a .spill))) {n = 7} refl (sym (c .before .has-room .ensures) ∙ c .if1 .left)
 
 pub put-interval-spec : {M : Type 1} → statement M
 put-interval-spec =
-    tie.close
-    (tie.spec
-    flank-kind-requires
-    flank-length-requires
-    endpoint-flag-requires
-    put-counts-requires
-    endpoint-index-requires
-    flag-of-requires
-    flag-of-requires-2
-    put-three-requires
-    same-length
-    returns)
+    tie.close (tie.spec has-room-requires store-interval-requires same-length returns returns-2)

@@ -1,58 +1,33 @@
 -- `words::located::put_located` meets its contract.
 -- Assumes nothing.
-use mathlib.Core.Path.{sym, _∙_, ap}
-use mathlib.Core.List.{List, _∷_}
-use lib.IntN.{ℤ, pos}
-use lib.Seq.{sets}
-use Rattle.locate.specs.declared.Located.{Located}
-use Rattle.locate.specs.Numbers.{locatedWords}
 use borrow.Author.Needs.{needs}
+use mathlib.Core.Path.{sym, _∙_}
+use borrow.Author.Tests.{leb-true}
+use denote.Ref.{now}
+use Rattle.locate.specs.Numbers.{locatedWords}
+use Rattle.words.specs.code.Near.{cappedAt}
+use Rattle.words.proofs.WordLengths.{located-length}
+use Rattle.words.proofs.Capping.{put-all, put-none}
 use Rattle.words.proofs.located.put_located.Statement.{statement}
 use Rattle.words.proofs.located.put_located.Tie as tie
 
-enum-known-located : tie.Need-enum-known-located
-enum-known-located c = search needs
+has-room-requires : tie.Need-has-room-requires
+has-room-requires c κs = search needs
 
-row-of-requires : tie.Need-row-of-requires
-row-of-requires c κs = rw (c .before .before .located .given .1) at (c .before .before .before .before .pre .1)
-
-put-row-requires : tie.Need-put-row-requires
-put-row-requires c κs = search needs
-
-enum-known-located-2 : tie.Need-enum-known-located-2
-enum-known-located-2 c = search needs
-
-put-refusal-requires : tie.Need-put-refusal-requires
-put-refusal-requires c κs = search needs
+store-located-requires : tie.Need-store-located-requires
+store-located-requires c κs = let a = c .before .before .before .args in leb-true _ _ (sym (c .before .before .has-room .ensures) ∙ c .before .if1 .taken)
 
 same-length : tie.Need-same-length
 same-length c = search needs
 
 returns : tie.Need-returns
-returns c =
-    let x = c .before .before .before .before .before .before .before .args in
-    c .before .put-row .ensures
-    ∙ ap (λ (w : List ℤ). sets (x .out .now) (x .at) (pos 0 ∷ w)) (c .before .before .row-of .ensures)
-    ∙ ap (λ (y : Located). sets (x .out .now) (x .at) (locatedWords y)) (sym (c .before .before .before .before .before .located .given .1))
-
-same-length-2 : tie.Need-same-length-2
-same-length-2 c = search needs
+returns c = let a = c .before .before .before .before .before .args in
+    put-all (now (a .out)) (a .at) (locatedWords (cappedAt (a .located))) (located-length (cappedAt (a .located))) (sym (c .before .before .before .before .has-room .ensures) ∙ c .before .before .before .if1 .taken) (c .before .store-located .ensures)
 
 returns-2 : tie.Need-returns-2
-returns-2 c =
-    let x = c .before .before .before .before .before .before .args in
-    c .before .put-refusal .ensures ∙ ap (λ (y : Located). sets (x .out .now) (x .at) (locatedWords y)) (sym (c .before .before .before .before .located2 .given .1))
+returns-2 c = let a = c .before .before .args in
+    put-none (now (a .out)) (a .at) (locatedWords (cappedAt (a .located))) (located-length (cappedAt (a .located))) (sym (c .before .has-room .ensures) ∙ c .if1 .left)
 
 pub put-located-spec : {M : Type 1} → statement M
 put-located-spec =
-    tie.close
-    (tie.spec
-    enum-known-located
-    row-of-requires
-    put-row-requires
-    enum-known-located-2
-    put-refusal-requires
-    same-length
-    returns
-    same-length-2
-    returns-2)
+    tie.close (tie.spec has-room-requires store-located-requires same-length returns returns-2)

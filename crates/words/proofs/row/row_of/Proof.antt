@@ -1,17 +1,16 @@
 -- `words::row::row_of` meets its contract.
 -- Assumes nothing.
+use borrow.Author.Needs.{needs}
 use mathlib.Core.Path.{_∙_}
 use Rattle.locate.proofs.Signed.{back}
-use native.Mathlib.Omega.{arith}
-use borrow.Author.Needs.{needs}
 use Rattle.words.proofs.row.row_of.Statement.{statement}
 use Rattle.words.proofs.row.row_of.Tie as tie
 
 enum-known-place : tie.Need-enum-known-place
 enum-known-place c = search needs
 
-cast-signed : tie.Need-cast-signed
-cast-signed c = let p = rw (c .before .place .given .1) at (c .before .before .before .pre) in record { fits = omega arith }
+cap-requires : tie.Need-cap-requires
+cap-requires c κs = search needs
 
 signed-requires : tie.Need-signed-requires
 signed-requires c κs = search needs
@@ -22,8 +21,8 @@ plain-requires c κs = search needs
 enum-known-place-2 : tie.Need-enum-known-place-2
 enum-known-place-2 c = search needs
 
-cast-signed-2 : tie.Need-cast-signed-2
-cast-signed-2 c = let p = rw (c .before .place2 .given .1) at (c .before .before .before .pre) in record { fits = omega arith }
+cap-requires-2 : tie.Need-cap-requires-2
+cap-requires-2 c κs = search needs
 
 signed-requires-2 : tie.Need-signed-requires-2
 signed-requires-2 c κs = search needs
@@ -76,8 +75,8 @@ plain-requires-5 c κs = search needs
 enum-known-place-6 : tie.Need-enum-known-place-6
 enum-known-place-6 c = search needs
 
-cast-signed-3 : tie.Need-cast-signed-3
-cast-signed-3 c = search needs
+cast-signed : tie.Need-cast-signed
+cast-signed c = search needs
 
 signed-requires-4 : tie.Need-signed-requires-4
 signed-requires-4 c κs = search needs
@@ -88,8 +87,8 @@ plain-requires-6 c κs = search needs
 enum-known-place-7 : tie.Need-enum-known-place-7
 enum-known-place-7 c = search needs
 
-cast-signed-4 : tie.Need-cast-signed-4
-cast-signed-4 c = search needs
+cast-signed-2 : tie.Need-cast-signed-2
+cast-signed-2 c = search needs
 
 signed-requires-5 : tie.Need-signed-requires-5
 signed-requires-5 c κs = search needs
@@ -134,10 +133,10 @@ plain-requires-12 : tie.Need-plain-requires-12
 plain-requires-12 c κs = search needs
 
 returns : tie.Need-returns
-returns c = c .plain .ensures ∙ rw (c .before .before .before .place .given .1, back (c .before .signed .result) (c .before .signed .ok), c .before .signed .ensures)
+returns c = c .plain .ensures ∙ rw (c .before .before .before .before .place .given .1, back (c .before .signed .result) (c .before .signed .ok), c .before .signed .ensures, c .before .before .cap .ensures)
 
 returns-2 : tie.Need-returns-2
-returns-2 c = c .plain2 .ensures ∙ rw (c .before .before .before .place2 .given .1, back (c .before .signed2 .result) (c .before .signed2 .ok), c .before .signed2 .ensures)
+returns-2 c = c .plain2 .ensures ∙ rw (c .before .before .before .before .place2 .given .1, back (c .before .signed2 .result) (c .before .signed2 .ok), c .before .signed2 .ensures, c .before .before .cap2 .ensures)
 
 returns-3 : tie.Need-returns-3
 returns-3 c = c .plain3 .ensures ∙ rw (c .before .enum-told .given .1)
@@ -177,11 +176,11 @@ row-of-spec =
     tie.close
     (tie.spec
     enum-known-place
-    cast-signed
+    cap-requires
     signed-requires
     plain-requires
     enum-known-place-2
-    cast-signed-2
+    cap-requires-2
     signed-requires-2
     plain-requires-2
     enum-told
@@ -199,11 +198,11 @@ row-of-spec =
     flag-of-requires-3
     plain-requires-5
     enum-known-place-6
-    cast-signed-3
+    cast-signed
     signed-requires-4
     plain-requires-6
     enum-known-place-7
-    cast-signed-4
+    cast-signed-2
     signed-requires-5
     plain-requires-7
     enum-known-place-8
