@@ -35,7 +35,7 @@ pub fn exon_part(column: &[u64; 4096], k: usize, rows: Rows) -> &[u64]
 }
 
 // The segments' part of a column.
-pub fn segment_part(column: &[u64; 4096], k: usize, rows: Rows) -> &[u64]
+pub fn segment_part(column: &[u64; 4096], rows: Rows) -> &[u64]
     ensures { λ r. ⌜ now r ≡ part (rows .bounds) (rows .segments) (now column.entry) ⌝ }
 {
     let end = least(rows.segments, 4096);
@@ -45,7 +45,7 @@ pub fn segment_part(column: &[u64; 4096], k: usize, rows: Rows) -> &[u64]
 }
 
 // The segments' part of the marks: their phases.
-pub fn segment_phases(column: &[u8; 4096], k: usize, rows: Rows) -> &[u8]
+pub fn segment_phases(column: &[u8; 4096], rows: Rows) -> &[u8]
     ensures { λ r. ⌜ now r ≡ part (rows .bounds) (rows .segments) (now column.entry) ⌝ }
 {
     let end = least(rows.segments, 4096);
@@ -55,7 +55,7 @@ pub fn segment_phases(column: &[u8; 4096], k: usize, rows: Rows) -> &[u8]
 }
 
 // The segments' part of the numbers: their exons' indexes.
-pub fn segment_exons(column: &[u16; 4096], k: usize, rows: Rows) -> &[u16]
+pub fn segment_exons(column: &[u16; 4096], rows: Rows) -> &[u16]
     ensures { λ r. ⌜ now r ≡ part (rows .bounds) (rows .segments) (now column.entry) ⌝ }
 {
     let end = least(rows.segments, 4096);
@@ -65,7 +65,7 @@ pub fn segment_exons(column: &[u16; 4096], k: usize, rows: Rows) -> &[u16]
 }
 
 // The selenocysteine bases' part of a column.
-pub fn base_part(column: &[u64; 4096], k: usize, rows: Rows) -> &[u64]
+pub fn base_part(column: &[u64; 4096], rows: Rows) -> &[u64]
     ensures { λ r. ⌜ now r ≡ part (rows .segments) (rows .bases) (now column.entry) ⌝ }
 {
     let end = least(rows.bases, 4096);

@@ -46,11 +46,11 @@ fn admit_row(
         model_in(marks, ids, numbers, starts, ends, k, rows),
         exon_part(starts, k, rows),
         exon_part(ends, k, rows),
-        segment_phases(marks, k, rows),
-        segment_exons(numbers, k, rows),
-        segment_part(starts, k, rows),
-        segment_part(ends, k, rows),
-        base_part(starts, k, rows),
+        segment_phases(marks, rows),
+        segment_exons(numbers, rows),
+        segment_part(starts, rows),
+        segment_part(ends, rows),
+        base_part(starts, rows),
     )
 }
 

@@ -77,10 +77,10 @@ pub(crate) fn index_row(
         model_in(marks, ids, numbers, starts, ends, row, rows),
         exon_part(starts, row, rows),
         exon_part(ends, row, rows),
-        segment_phases(marks, row, rows),
-        segment_exons(numbers, row, rows),
-        segment_part(starts, row, rows),
-        segment_part(ends, row, rows),
-        base_part(starts, row, rows),
+        segment_phases(marks, rows),
+        segment_exons(numbers, rows),
+        segment_part(starts, rows),
+        segment_part(ends, rows),
+        base_part(starts, rows),
     )
 }

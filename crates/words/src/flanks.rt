@@ -82,7 +82,7 @@ fn store_interval(out: &mut [i64], flank: Flank, e: Endpoint, spill: SpliceSpill
     );
 }
 
-// The same at the front of any buffer. Where it has not 7 elements nothing is stored.
+// The same at the front of any buffer. Where it has fewer than 7 elements nothing is stored.
 pub fn put_interval(out: &mut [i64], flank: Flank, e: Endpoint, spill: SpliceSpill)
     ensures { λ _. ⌜ now out.exit ≡ putAt (now out.entry) 0 (intervalWords (Flanked.Beside (cappedFlank flank)) e (Spilled.Spill spill)) ⌝ }
 {

@@ -21,7 +21,7 @@ abbrev on : (b : tie.Start) → {P : TranscriptModel → List ℕ → List ℕ �
 on b f = f (b .args .model) (now (b .args .exon-starts)) (now (b .args .exon-ends)) (now (b .args .seg-phases)) (now (b .args .seg-exons)) (now (b .args .seg-starts)) (now (b .args .seg-ends)) (now (b .args .selenocysteine))
 
 has-frameshift-intron-requires : tie.Need-has-frameshift-intron-requires
-has-frameshift-intron-requires c κs = let b = c .before .before .before .before .before .before .before .before in let k = on b ad (b .pre .0) in (k .even, k .edges)
+has-frameshift-intron-requires c κs = tt
 
 store-sums-requires : tie.Need-store-sums-requires
 store-sums-requires c κs =
