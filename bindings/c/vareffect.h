@@ -133,7 +133,8 @@ uint32_t vareffect_deck_ids(const uint8_t *bytes, size_t bytes_len,
 
 /* The lister's line of a call on a transcript, newline included, under a line
    number; a refused call gives the line of its refusal. Its length, or 0 where
-   it does not fit in `out` (1553 bytes hold every line). */
+   it does not fit in `out`. 1553 bytes hold every line: theorem `longestLine`
+   of crates/lines. */
 size_t vareffect_line(uint64_t number, uint16_t window_chromosome,
                       uint64_t window_first, const uint8_t *window,
                       size_t window_len, uint16_t chromosome, uint64_t position,

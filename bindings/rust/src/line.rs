@@ -3,7 +3,7 @@
 use crate::call::{Call, Window};
 use crate::transcript::Transcript;
 
-/// The longest line, newline included.
+/// No line is longer, newline included: theorem `longestLine` of crates/lines.
 const LONGEST: usize = 1553;
 
 /// The line of a call on a transcript under a line number, newline included; a
