@@ -1,9 +1,9 @@
 // Refusals 10 to 12: the first and the last coding base, and the segments against the exons.
 use super::Strand;
-use super::oriented::end_of;
+use super::oriented::end_within;
 use super::oriented::first_base;
 use super::oriented::last_base;
-use super::oriented::start_of;
+use super::oriented::start_within;
 use super::segments::holds_base;
 ghost use mathlib.Core.Path.{_≡_};
 ghost use mathlib.Core.Bool.{true, false};
@@ -52,10 +52,10 @@ pub(crate) fn is_cut(
     }
     let s = starts[k];
     let e = ends[k];
-    if start_of(strand, s, e) != lo {
+    if start_within(strand, s, e) != lo {
         return false;
     }
-    end_of(strand, s, e) == hi
+    end_within(strand, s, e) == hi
 }
 
 // Whether the segments are the nonempty exon-CDS intersections in strand order, each with its exon's index.
@@ -75,15 +75,15 @@ pub(crate) fn are_cuts(
         let exons = map (orientExon strand) (exonsOf (now starts.entry) (now ends.entry)) in
         ⌜ r ≡ sameCuts listed (cuts (orient strand «cds_start» «cds_end») 0 exons) ⌝ }
 {
-    let first = start_of(strand, cds_start, cds_end);
-    let past = end_of(strand, cds_start, cds_end);
+    let first = start_within(strand, cds_start, cds_end);
+    let past = end_within(strand, cds_start, cds_end);
     let mut k = 0;
     let mut i = 0;
     while i < starts.len() {
         let s = starts[i];
         let e = ends[i];
-        let lo = larger(start_of(strand, s, e), first);
-        let hi = smaller(end_of(strand, s, e), past);
+        let lo = larger(start_within(strand, s, e), first);
+        let hi = smaller(end_within(strand, s, e), past);
         if hi <= lo {
             i += 1;
             continue;

@@ -1,8 +1,8 @@
 // Refusals 3 to 7: the order of the exons, the outer bounds, the CDS bounds, the phases and the pad.
 use super::CdsBounds;
 use super::Strand;
-use super::oriented::end_of;
-use super::oriented::start_of;
+use super::oriented::end_within;
+use super::oriented::start_within;
 ghost use mathlib.Core.Path.{_≡_};
 ghost use mathlib.Core.Bool.{false, not, _&&_};
 ghost use mathlib.Core.List.{map};
@@ -27,10 +27,10 @@ pub(crate) fn in_order(starts: &[u64], ends: &[u64], strand: Strand) -> bool
     while i < starts.len() {
         let s = starts[i];
         let e = ends[i];
-        if start_of(strand, s, e) < edge {
+        if start_within(strand, s, e) < edge {
             return false;
         }
-        edge = end_of(strand, s, e);
+        edge = end_within(strand, s, e);
         i += 1;
     }
     true
@@ -54,13 +54,13 @@ pub(crate) fn bad_bounds(
 {
     let s = starts[0];
     let e = ends[0];
-    if start_of(strand, tx_start, tx_end) != start_of(strand, s, e) {
+    if start_within(strand, tx_start, tx_end) != start_within(strand, s, e) {
         return true;
     }
     let last = starts.len() - 1;
     let t = starts[last];
     let f = ends[last];
-    end_of(strand, tx_start, tx_end) != end_of(strand, t, f)
+    end_within(strand, tx_start, tx_end) != end_within(strand, t, f)
 }
 
 // 5: bounds without segments or the reverse, or start not below end.

@@ -2,7 +2,7 @@
 use super::Strand;
 ghost use mathlib.Core.Path.{_≡_};
 ghost use Prim.Native.Nat.{_-_, _≤_, _<_};
-ghost use Rattle.transcript.specs.Limits.{coordinateLimit};
+ghost use Rattle.transcript.specs.Limits.{top, coordinateLimit};
 ghost use Rattle.transcript.specs.Orient.{orient, orientBase};
 
 // Above every coordinate.
@@ -16,6 +16,28 @@ pub(crate) fn below(y: u64, x: u64) -> u64
         return 0;
     }
     y - x
+}
+
+// The first base of [s, e), oriented, where e is not above `top`: admission, which has tested that, spends no further test.
+pub(crate) fn start_within(strand: Strand, s: u64, e: u64) -> u64
+    requires { ⌜ e ≤ top ⌝ }
+    ensures { λ r. ⌜ r ≡ orient strand s e .start ⌝ }
+{
+    match strand {
+        Strand::Plus => s,
+        Strand::Minus => TOP - e,
+    }
+}
+
+// Past the last base of [s, e), oriented, where s is not above `top`.
+pub(crate) fn end_within(strand: Strand, s: u64, e: u64) -> u64
+    requires { ⌜ s ≤ top ⌝ }
+    ensures { λ r. ⌜ r ≡ orient strand s e .end ⌝ }
+{
+    match strand {
+        Strand::Plus => e,
+        Strand::Minus => TOP - s,
+    }
 }
 
 // The first base of [s, e), oriented.

@@ -1,6 +1,5 @@
 -- `transcript::coding::are_cuts` meets its contract. The invariant: the segments from k on and the exons from i on decide the comparison.
 -- Assumes nothing.
-use borrow.Author.Needs.{needs}
 use borrow.Author.Tests.{not-true, not-false}
 use mathlib.Core.Path.{_≡_, refl, sym, _∙_}
 use Prim.Native.Nat.{_-_, min, max}
@@ -8,6 +7,7 @@ use native.Mathlib.Omega.{arith}
 use denote.Ref.{now}
 use lib.ListN.{length, getD}
 use Rattle.transcript.specs.Orient.{orient}
+use Rattle.transcript.proofs.Listed.{edges-at}
 use Rattle.transcript.proofs.Matched.{Matched, match-pass, match-lacks, match-differs, match-same, match-end}
 use Rattle.transcript.proofs.coding.are_cuts.Statement.{statement}
 use Rattle.transcript.proofs.coding.are_cuts.Tie as tie
@@ -27,15 +27,15 @@ record Here (c : tie.After-smaller Inv-loop μ-loop) : Type 0 where
 here : (c : tie.After-smaller Inv-loop μ-loop) → Here c
 here c =
     record {
-      lo = c .before .before .larger .ensures ∙ rw (c .before .before .before .start-of2 .ensures, c .before .before .before .before .before .before .before .before .before .start-of .ensures);
-      hi = c .smaller .ensures ∙ rw (c .before .end-of2 .ensures, c .before .before .before .before .before .before .before .before .end-of .ensures);
+      lo = c .before .before .larger .ensures ∙ rw (c .before .before .before .start-within2 .ensures, c .before .before .before .before .before .before .before .before .before .start-within .ensures);
+      hi = c .smaller .ensures ∙ rw (c .before .end-within2 .ensures, c .before .before .before .before .before .before .before .before .end-within .ensures);
     }
 
-start-of-requires : tie.Need-start-of-requires Inv-loop μ-loop
-start-of-requires c κs = search needs
+start-within-requires : tie.Need-start-within-requires Inv-loop μ-loop
+start-within-requires c κs = let h = c .before .before .before .before .before .pre .end-low in omega arith
 
-end-of-requires : tie.Need-end-of-requires Inv-loop μ-loop
-end-of-requires c κs = search needs
+end-within-requires : tie.Need-end-within-requires Inv-loop μ-loop
+end-within-requires c κs = let h = c .before .before .before .before .before .before .pre .start-low in omega arith
 
 loop-holds : tie.Need-loop-holds Inv-loop μ-loop
 loop-holds c = record { within = omega arith; some = omega arith; same = refl }
@@ -52,14 +52,20 @@ mul-e c = omega arith
 shared-slice-read-e : tie.Need-shared-slice-read-e Inv-loop μ-loop
 shared-slice-read-e c = omega arith
 
-start-of-requires-2 : tie.Need-start-of-requires-2 Inv-loop μ-loop
-start-of-requires-2 c κs = search needs
+start-within-requires-2 : tie.Need-start-within-requires-2 Inv-loop μ-loop
+start-within-requires-2 c κs =
+    let b = c .before .before .before .before .before .before .before .before .before .before .before in
+    let m = edges-at (now (b .args .starts)) (now (b .args .ends)) (c .before .before .before .loop .i) (b .pre .edges) (b .pre .even) (omega arith) in
+    omega arith
 
 larger-requires : tie.Need-larger-requires Inv-loop μ-loop
 larger-requires c κs = tt
 
-end-of-requires-2 : tie.Need-end-of-requires-2 Inv-loop μ-loop
-end-of-requires-2 c κs = search needs
+end-within-requires-2 : tie.Need-end-within-requires-2 Inv-loop μ-loop
+end-within-requires-2 c κs =
+    let b = c .before .before .before .before .before .before .before .before .before .before .before .before .before in
+    let m = edges-at (now (b .args .starts)) (now (b .args .ends)) (c .before .before .before .before .before .loop .i) (b .pre .edges) (b .pre .even) (omega arith) in
+    omega arith
 
 smaller-requires : tie.Need-smaller-requires Inv-loop μ-loop
 smaller-requires c κs = tt
@@ -135,16 +141,16 @@ are-cuts-spec =
     (tie.spec
     Inv-loop
     μ-loop
-    start-of-requires
-    end-of-requires
+    start-within-requires
+    end-within-requires
     loop-holds
     mul-s
     shared-slice-read-s
     mul-e
     shared-slice-read-e
-    start-of-requires-2
+    start-within-requires-2
     larger-requires
-    end-of-requires-2
+    end-within-requires-2
     smaller-requires
     add-i
     loop-less

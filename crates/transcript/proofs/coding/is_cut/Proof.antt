@@ -6,6 +6,7 @@ use Prim.Native.Nat.{_-_}
 use native.Mathlib.Omega.{arith}
 use denote.Ref.{now}
 use lib.ListN.{getD}
+use Rattle.transcript.proofs.Listed.{edges-at}
 use borrow.Author.Needs.{needs}
 use Rattle.transcript.proofs.coding.is_cut.Statement.{statement}
 use Rattle.transcript.proofs.coding.is_cut.Tie as tie
@@ -34,21 +35,27 @@ mul-e c = search needs
 shared-slice-read-e : tie.Need-shared-slice-read-e
 shared-slice-read-e c = search needs
 
-start-of-requires : tie.Need-start-of-requires
-start-of-requires c κs = search needs
+start-within-requires : tie.Need-start-within-requires
+start-within-requires c κs =
+    let b = c .before .before .before .before .before .before .before in
+    let m = edges-at (now (b .args .starts)) (now (b .args .ends)) (b .args .k) (b .pre .1) (b .pre .0 .1) (omega arith) in
+    omega arith
 
 returns-2 : tie.Need-returns-2
 returns-2 c =
     let b = c .before .before .before .before .before .before .before .before .before .args in
-    rw (eq-eqb (getD (now (b .indexes)) (b .k) 0) (b .i) (c .before .before .before .before .if1 .left), sym (c .before .start-of .ensures), ne-eqb (c .before .start-of .result) (b .lo) (c .if2 .taken))
+    rw (eq-eqb (getD (now (b .indexes)) (b .k) 0) (b .i) (c .before .before .before .before .if1 .left), sym (c .before .start-within .ensures), ne-eqb (c .before .start-within .result) (b .lo) (c .if2 .taken))
 
-end-of-requires : tie.Need-end-of-requires
-end-of-requires c κs = search needs
+end-within-requires : tie.Need-end-within-requires
+end-within-requires c κs =
+    let b = c .before .before .before .before .before .before .before .before .before in
+    let m = edges-at (now (b .args .starts)) (now (b .args .ends)) (b .args .k) (b .pre .1) (b .pre .0 .1) (omega arith) in
+    omega arith
 
 returns-3 : tie.Need-returns-3
 returns-3 c =
     let b = c .before .before .before .before .before .before .before .before .before .before .args in
-    rw (eq-eqb (getD (now (b .indexes)) (b .k) 0) (b .i) (c .before .before .before .before .before .if1 .left), sym (c .before .before .start-of .ensures), eq-eqb (c .before .before .start-of .result) (b .lo) (c .before .if2 .left), sym (c .end-of .ensures))
+    rw (eq-eqb (getD (now (b .indexes)) (b .k) 0) (b .i) (c .before .before .before .before .before .if1 .left), sym (c .before .before .start-within .ensures), eq-eqb (c .before .before .start-within .result) (b .lo) (c .before .if2 .left), sym (c .end-within .ensures))
 
 pub is-cut-spec : {M : Type 1} → statement M
 is-cut-spec =
@@ -62,7 +69,7 @@ is-cut-spec =
     shared-slice-read-s
     mul-e
     shared-slice-read-e
-    start-of-requires
+    start-within-requires
     returns-2
-    end-of-requires
+    end-within-requires
     returns-3)

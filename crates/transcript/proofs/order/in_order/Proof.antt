@@ -1,6 +1,5 @@
 -- `transcript::order::in_order` meets its contract. The invariant: the exons from i on, after the edge, decide the order.
 -- Assumes nothing.
-use borrow.Author.Needs.{needs}
 use mathlib.Core.Path.{_≡_, refl, sym, _∙_, ap}
 use mathlib.Core.List.{map}
 use Prim.Native.Nat.{ℕ, _+_, _-_, _≤_}
@@ -10,7 +9,7 @@ use lib.ListN.{length, drop}
 use Rattle.transcript.specs.Transcript.{exonsOf}
 use Rattle.transcript.specs.Orient.{Interval, orientExon}
 use Rattle.transcript.specs.Admission.{ascending}
-use Rattle.transcript.proofs.Listed.{oriented-length, oriented-at}
+use Rattle.transcript.proofs.Listed.{oriented-length, oriented-at, edges-at}
 use Rattle.transcript.proofs.Steps.{order-stop, order-go, order-end}
 use Rattle.transcript.proofs.order.in_order.Statement.{statement}
 use Rattle.transcript.proofs.order.in_order.Tie as tie
@@ -36,8 +35,11 @@ mul-e c = omega arith
 shared-slice-read-e : tie.Need-shared-slice-read-e Inv-loop μ-loop
 shared-slice-read-e c = omega arith
 
-start-of-requires : tie.Need-start-of-requires Inv-loop μ-loop
-start-of-requires c κs = search needs
+start-within-requires : tie.Need-start-within-requires Inv-loop μ-loop
+start-within-requires c κs =
+    let b = c .before .before .before .before .before .before in
+    let m = edges-at (now (b .args .starts)) (now (b .args .ends)) (c .before .before .before .loop .i) (b .pre .1) (b .pre .0) (omega arith) in
+    omega arith
 
 returns : tie.Need-returns Inv-loop μ-loop
 returns c =
@@ -46,11 +48,14 @@ returns c =
     let x = map (orientExon (b .args .strand)) (exonsOf (now (b .args .starts)) (now (b .args .ends))) in
     let n = oriented-length (b .args .strand) (now (b .args .starts)) (now (b .args .ends)) (b .pre .0) in
     let f = ap (λ (y : Interval). y .start) (oriented-at (b .args .strand) (now (b .args .starts)) (now (b .args .ends)) (l .i) (b .pre .0) (omega arith)) in
-    let g = c .before .start-of .ensures in
+    let g = c .before .start-within .ensures in
     sym (order-stop x (l .edge) (l .i) (omega arith) (omega arith)) ∙ l .inv .1
 
-end-of-requires : tie.Need-end-of-requires Inv-loop μ-loop
-end-of-requires c κs = search needs
+end-within-requires : tie.Need-end-within-requires Inv-loop μ-loop
+end-within-requires c κs =
+    let b = c .before .before .before .before .before .before .before .before in
+    let m = edges-at (now (b .args .starts)) (now (b .args .ends)) (c .before .before .before .before .before .loop .i) (b .pre .1) (b .pre .0) (omega arith) in
+    omega arith
 
 add-i : tie.Need-add-i Inv-loop μ-loop
 add-i c = omega arith
@@ -67,9 +72,9 @@ loop-again c =
     let s = oriented-at (b .args .strand) (now (b .args .starts)) (now (b .args .ends)) (l .i) (b .pre .0) (omega arith) in
     let f = ap (λ (y : Interval). y .start) s in
     let t = ap (λ (y : Interval). y .end) s in
-    let g = c .before .before .start-of .ensures in (
+    let g = c .before .before .start-within .ensures in (
       omega arith,
-      ap (λ (k : ℕ). ascending k (drop (l .i + 1) x)) (c .end-of .ensures ∙ sym t)
+      ap (λ (k : ℕ). ascending k (drop (l .i + 1) x)) (c .end-within .ensures ∙ sym t)
           ∙ sym (order-go x (l .edge) (l .i) (omega arith) (omega arith)) ∙ l .inv .1,
     )
 
@@ -91,9 +96,9 @@ in-order-spec =
     shared-slice-read-s
     mul-e
     shared-slice-read-e
-    start-of-requires
+    start-within-requires
     returns
-    end-of-requires
+    end-within-requires
     add-i
     loop-less
     loop-again
