@@ -17,7 +17,7 @@ use Rattle.listing.specs.declared.ParsedCall.{ParsedCall}
 use Rattle.listing.specs.Calls.{linesOf, parseCall}
 use Rattle.listing.specs.WindowFile.{windowOf}
 use Rattle.listing.specs.Entries.{callEntries}
-use Rattle.listing.specs.Pieces.{Step, callSteps, stepsFrom, newlines, lineNumber, Packed, pack, pieceTo}
+use Rattle.listing.specs.Pieces.{Step, callSteps, stepsFrom, lineNumber, stepsAt, Packed, pack, pieceTo}
 use Rattle.listing.specs.code.Lengths.{lineLength}
 use Rattle.listing.proofs.Lines.{lines-step, line-inside}
 use Rattle.listing.proofs.Newlines.{newlines-few}
@@ -34,10 +34,19 @@ window-is f a b d = rw (a, b, d)
 pub few-lines : (calls : List ℕ) (at : ℕ) → lineNumber calls at + (length calls - at) ≤ length calls + 1
 few-lines calls at = let a = newlines-few (take at calls) in let b = length-take at calls in omega arith
 
+-- what was put, of the same lines said otherwise
+pub put-as : (buffer : List ℕ) {xs ys : List Step} {r : Filled} {after : List ℕ} → xs ≡ ys
+    → (r ≡ filledAs (pack (length buffer) xs)) × (after ≡ pieceTo buffer (pack (length buffer) xs))
+    → (r ≡ filledAs (pack (length buffer) ys)) × (after ≡ pieceTo buffer (pack (length buffer) ys))
+put-as buffer e h = (h .0 ∙ ap (λ (ss : List Step). filledAs (pack (length buffer) ss)) e, h .1 ∙ ap (λ (ss : List Step). pieceTo buffer (pack (length buffer) ss)) e)
+
 module _ (ts : List Transcript) (w : Window) (calls : List ℕ) where
   -- the lines from a byte on, under a number, and from an entry on
   abbrev pub linesFrom : ℕ → ℕ → ℕ → List Step
   linesFrom number at k = stepsFrom ts w number at k (linesOf (drop at calls))
+
+  pub lines-at : (c : Cursor) {number : ℕ} → number ≡ lineNumber calls (c .at) → linesFrom number (c .at) (c .entry) ≡ stepsAt ts w calls c
+  lines-at c e = ap (λ (n : ℕ). linesFrom n (c .at) (c .entry)) e
 
   pub lines-end : (number at k : ℕ) → length calls ≤ at → linesFrom number at k ≡ []
   unfolding stepsFrom linesOf

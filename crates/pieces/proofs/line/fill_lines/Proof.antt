@@ -15,7 +15,7 @@ use Rattle.listing.specs.WindowFile.{windowOf}
 use Rattle.listing.specs.Pieces.{lineNumber, pack}
 use Rattle.listing.proofs.Lines.{line-inside}
 use Rattle.pieces.proofs.Filling.{filled-fits, Filling, filling-none, filling-length, filling-low, mid-length, filling-end}
-use Rattle.pieces.proofs.CallLines.{window-is, few-lines, linesFrom, lines-end, line-whole, line-part}
+use Rattle.pieces.proofs.CallLines.{window-is, few-lines, put-as, linesFrom, lines-at, lines-end, line-whole, line-part}
 use Rattle.pieces.proofs.line.fill_lines.Statement.{statement}
 use Rattle.pieces.proofs.line.fill_lines.Tie as tie
 
@@ -123,7 +123,7 @@ returns c =
     let p = c .before .before .before .before .before .fill-parsed in
     let o = window-is (now (a .window)) (c .before .before .before .before .before .before .before .before .before .before .before .before .before .before .before .u16-at .ensures) (c .before .before .before .before .before .before .before .before .before .before .before .before .before .before .u64-at .ensures) (c .before .before .before .before .before .before .before .before .before .before .before .before .before .bases-of .ensures) in
     let n = c .before .before .before .before .before .before .before .before .before .before .before .before .line-number .ensures in
-    rw (← n) (line-part (tableTranscripts (table b)) (windowOf (now (a .window))) (now (a .calls)) (l .number) (l .at) (l .entry) (c .before .before .before .before .before .before .before .before .before .line-end .result) (c .before .before .before .before .before .before .before .before .before .before .loop-test .taken) (c .before .before .before .before .before .before .before .before .before .line-end .ensures) (l .inv .0) (c .before .before .before .before .before .before .before .parse-call .ensures) (rw o at (p .ensures .0)) (rw o at (p .ensures .1)) (c .enum-told2 .given .1))
+    put-as (now (a .out)) (lines-at (tableTranscripts (table b)) (windowOf (now (a .window))) (now (a .calls)) (a .cursor) n) (line-part (tableTranscripts (table b)) (windowOf (now (a .window))) (now (a .calls)) (l .number) (l .at) (l .entry) (c .before .before .before .before .before .before .before .before .before .line-end .result) (c .before .before .before .before .before .before .before .before .before .before .loop-test .taken) (c .before .before .before .before .before .before .before .before .before .line-end .ensures) (l .inv .0) (c .before .before .before .before .before .before .before .parse-call .ensures) (rw o at (p .ensures .0)) (rw o at (p .ensures .1)) (c .enum-told2 .given .1))
 
 add-number : tie.Need-add-number Inv-loop μ-loop
 add-number c = let h = c .before .before .before .before .before .before .before .before .before .before .before .loop .inv .1 in omega arith
@@ -153,7 +153,7 @@ returns-2 c =
     let a = b .args in
     let l = c .before .loop in
     let n = c .before .before .line-number .ensures in
-    rw (← n) (filling-end (l .inv .0) (lines-end (tableTranscripts (table b)) (windowOf (now (a .window))) (now (a .calls)) (l .number) (l .at) (l .entry) (omega arith)))
+    put-as (now (a .out)) (lines-at (tableTranscripts (table b)) (windowOf (now (a .window))) (now (a .calls)) (a .cursor) n) (filling-end (l .inv .0) (lines-end (tableTranscripts (table b)) (windowOf (now (a .window))) (now (a .calls)) (l .number) (l .at) (l .entry) (omega arith)))
 
 pub fill-lines-spec : {M : Type 1} → statement M
 fill-lines-spec =
