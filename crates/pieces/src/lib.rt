@@ -5,6 +5,7 @@ mod fill;
 mod index;
 mod line;
 mod open;
+mod parsed;
 mod piece;
 mod row;
 

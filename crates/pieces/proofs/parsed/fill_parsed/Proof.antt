@@ -1,8 +1,8 @@
--- `pieces::line::fill_parsed` meets its contract.
+-- `pieces::parsed::fill_parsed` meets its contract.
 -- Assumes nothing.
 use borrow.Author.Needs.{needs}
-use Rattle.pieces.proofs.line.fill_parsed.Statement.{statement}
-use Rattle.pieces.proofs.line.fill_parsed.Tie as tie
+use Rattle.pieces.proofs.parsed.fill_parsed.Statement.{statement}
+use Rattle.pieces.proofs.parsed.fill_parsed.Tie as tie
 
 enum-known-parsed : tie.Need-enum-known-parsed
 enum-known-parsed c = search needs
