@@ -1,10 +1,14 @@
 //! An interval beside or across a transcript.
 
-use crate::place::answered;
-use crate::transcript::{Refusal, Transcript, judged};
-
 /// On which side of the transcript, and how far.
-#[derive(Debug, Clone, Copy, PartialEq, Eq)]
+///
+/// ```
+/// use vareffect_proved::{Flank, example};
+///
+/// assert_eq!(example::TRANSCRIPT.interval(1, 190, 200)?.flank, Flank::Downstream(1));
+/// # Ok::<(), vareffect_proved::Refusal>(())
+/// ```
+#[derive(Debug, Clone, Copy, PartialEq, Eq, Hash)]
 pub enum Flank {
     Overlaps,
     Upstream(u64),
@@ -13,13 +17,35 @@ pub enum Flank {
 }
 
 /// Which splice windows of a short intron are reached from the exon.
-#[derive(Debug, Clone, Copy, PartialEq, Eq)]
+///
+/// ```
+/// use vareffect_proved::{SpliceSpill, Transcript, example};
+///
+/// // An intron of one base, and an insertion before it.
+/// let short = Transcript {
+///     cds: None, tx_end: 161, exon_starts: &[100, 131], exon_ends: &[130, 161],
+///     seg_phases: &[], seg_exons: &[], seg_starts: &[], seg_ends: &[], ..example::TRANSCRIPT
+/// };
+/// let spill = SpliceSpill { donor: false, acceptor: true };
+/// assert_eq!(short.interval(1, 130, 130)?.spill, Some(spill));
+/// # Ok::<(), vareffect_proved::Refusal>(())
+/// ```
+#[derive(Debug, Clone, Copy, PartialEq, Eq, Hash)]
 pub struct SpliceSpill {
     pub donor: bool,
     pub acceptor: bool,
 }
 
-#[derive(Debug, Clone, Copy, PartialEq, Eq)]
+/// What an interval is to a transcript.
+///
+/// ```
+/// use vareffect_proved::{Flank, Interval, example};
+///
+/// let inside = Interval { flank: Flank::Overlaps, frameshift_intron: None, spill: None };
+/// assert_eq!(example::TRANSCRIPT.interval(1, 110, 120)?, inside);
+/// # Ok::<(), vareffect_proved::Refusal>(())
+/// ```
+#[derive(Debug, Clone, Copy, PartialEq, Eq, Hash)]
 pub struct Interval {
     pub flank: Flank,
     /// The short intron (1 to 13 bases) that holds an end.
@@ -29,7 +55,8 @@ pub struct Interval {
 }
 
 impl Interval {
-    fn from_words(words: &[i64; 6]) -> Self {
+    /// From the words behind the refusal's number.
+    pub(crate) fn from_words(words: &[i64; 6]) -> Self {
         let [kind, distance, held, intron, donor, acceptor] = *words;
         let distance = distance as u64;
         Self {
@@ -46,20 +73,4 @@ impl Interval {
             }),
         }
     }
-}
-
-/// About `[start, end)`; start equal to end is an insertion before `start`.
-pub fn interval(
-    chromosome: u16,
-    start: u64,
-    end: u64,
-    transcript: &Transcript,
-) -> Result<Interval, Refusal> {
-    let mut out = [0; 7];
-    // SAFETY: each pointer comes with the length of its slice.
-    judged(unsafe {
-        crate::ask_raw!(vareffect_interval(
-            chromosome, start, end; transcript; out.as_mut_ptr(), out.len()))
-    })?;
-    answered(&out).map(Interval::from_words)
 }

@@ -1,23 +1,83 @@
 //! Where a base falls on a transcript and what a single-base call does there,
 //! answered by the proved static library `libinterface.a`.
 //!
-//! Coordinates count from 0 and ends are not included; exons, segments and
-//! selenocysteine bases stand in strand order. What cannot be answered is a
-//! [`Refusal`] with its number.
+//! ```
+//! use vareffect_proved::{Call, Deck, Window, example};
+//!
+//! let deck = Deck::read(&example::DECK)?;
+//! let window = Window::read(&example::WINDOW_FILE)?;
+//! let call = Call { chromosome: 1, position: 129, ref_base: b'A', alt_base: b'C' };
+//! for transcript in deck.transcripts() {
+//!     let answer = transcript.call(window, call)?;
+//!     assert_eq!(answer.location.name(), "CdsExon");
+//!     let terms: Vec<&str> = answer.consequences.names().collect();
+//!     assert_eq!(terms, ["missense_variant", "splice_region_variant"]);
+//! }
+//! # Ok::<(), vareffect_proved::Refusal>(())
+//! ```
+//!
+//! Coordinates count from 0 and ends are not included. Chromosomes are 1 to 25
+//! (23 X, 24 Y, 25 M). Exons, segments and selenocysteine bases stand in strand
+//! order: on the minus strand the highest exon comes first. What cannot be
+//! answered is a [`Refusal`] with its number, cause and what to do.
+//!
+//! Answers have the cases and field names of the `vareffect` crate, whose
+//! answers they are proved and compared to be. All functions may be called from
+//! any number of threads at once; each needs at most [`STACK`] bytes of stack.
 
+mod answer;
+mod ask;
 mod call;
 mod deck;
+pub mod example;
+mod held;
 mod interval;
-mod line;
+mod listing;
 mod place;
-pub mod raw;
+mod raw;
+mod refusal;
 mod terms;
 mod transcript;
+mod words;
 
-pub use call::{AminoAcids, Call, Codon, Codons, ConsequenceResult, Numbered, Window, call, calls};
-pub use deck::{DeckRefusal, check_deck, deck_ids};
-pub use interval::{Flank, Interval, SpliceSpill, interval};
-pub use line::line;
-pub use place::{SpliceSide, VariantLocation, place, places};
-pub use terms::{TERM_NAMES, Terms};
-pub use transcript::{Refusal, Strand, Transcript, admit};
+pub use answer::{AminoAcids, Codon, Codons, ConsequenceResult, Numbered};
+pub use call::{Call, Window};
+pub use deck::Deck;
+pub use interval::{Flank, Interval, SpliceSpill};
+pub use listing::Listing;
+pub use place::{SpliceSide, VariantLocation};
+pub use refusal::Refusal;
+pub use terms::Terms;
+pub use transcript::{Strand, Transcript};
+pub use words::TERM_NAMES;
+
+/// The version of the library's functions that this crate is made for.
+///
+/// ```
+/// assert_eq!(vareffect_proved::ABI, vareffect_proved::abi());
+/// ```
+pub const ABI: u64 = 2;
+
+/// The most stack, in bytes, that a function of the library needs.
+///
+/// ```
+/// use std::thread;
+/// use vareffect_proved::{STACK, example};
+///
+/// // The thread's own frames need some too.
+/// let thread = thread::Builder::new().stack_size(STACK + 65_536);
+/// let asked = thread.spawn(|| example::TRANSCRIPT.admit()).unwrap();
+/// assert_eq!(asked.join().unwrap(), Ok(()));
+/// ```
+pub const STACK: usize = 196_608;
+
+/// The version of the functions of the library that is linked; [`ABI`] where
+/// both are of one release.
+///
+/// ```
+/// assert_eq!(vareffect_proved::abi(), 2);
+/// ```
+pub fn abi() -> u64 {
+    // SAFETY: it takes nothing and returns a number.
+    unsafe { raw::vareffect_abi() }
+}

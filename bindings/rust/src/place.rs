@@ -1,14 +1,38 @@
-//! The place of a base. Cases and fields are named as in the Rust.
+//! The place of a base.
 
-use crate::transcript::{Refusal, Transcript, judged};
+use crate::words::PLACE_NAMES;
 
-#[derive(Debug, Clone, Copy, PartialEq, Eq)]
+/// The end of an intron that a base is near to.
+///
+/// ```
+/// use vareffect_proved::{SpliceSide, VariantLocation, example};
+///
+/// let near = VariantLocation::SpliceRegion { intron_index: 0, side: SpliceSide::Donor, distance: 3 };
+/// assert_eq!(example::TRANSCRIPT.place(1, 132, 133), Ok(near));
+/// ```
+#[derive(Debug, Clone, Copy, PartialEq, Eq, Hash)]
 pub enum SpliceSide {
     Donor,
     Acceptor,
 }
 
-#[derive(Debug, Clone, Copy, PartialEq, Eq)]
+/// Where a base falls; cases and fields are named as in the `vareffect` crate.
+/// Indexes count from 0, 5' first.
+///
+/// ```
+/// use vareffect_proved::{VariantLocation, example};
+///
+/// let base = VariantLocation::CdsExon {
+///     exon_index: 0,
+///     cds_segment_index: 0,
+///     cds_offset: 1,
+///     codon_number: 1,
+///     codon_position: 1,
+///     is_splice_region: false,
+/// };
+/// assert_eq!(example::TRANSCRIPT.place(1, 111, 112), Ok(base));
+/// ```
+#[derive(Debug, Clone, Copy, PartialEq, Eq, Hash)]
 pub enum VariantLocation {
     Upstream {
         distance: u64,
@@ -67,6 +91,35 @@ pub enum VariantLocation {
 }
 
 impl VariantLocation {
+    /// The name of the case, as the lister prints it.
+    ///
+    /// ```
+    /// use vareffect_proved::VariantLocation;
+    ///
+    /// assert_eq!(VariantLocation::Upstream { distance: 5 }.name(), "Upstream");
+    /// ```
+    pub fn name(&self) -> &'static str {
+        PLACE_NAMES[self.kind()]
+    }
+
+    fn kind(&self) -> usize {
+        match self {
+            Self::Upstream { .. } => 0,
+            Self::Downstream { .. } => 1,
+            Self::Distal => 2,
+            Self::FivePrimeUtr { .. } => 3,
+            Self::CdsExon { .. } => 4,
+            Self::ThreePrimeUtr { .. } => 5,
+            Self::SpliceDonor { .. } => 6,
+            Self::SpliceAcceptor { .. } => 7,
+            Self::SpliceRegion { .. } => 8,
+            Self::Intron { .. } => 9,
+            Self::FrameshiftIntron { .. } => 10,
+            Self::NonCodingExon { .. } => 11,
+            Self::NonCodingIntron { .. } => 12,
+        }
+    }
+
     /// From kind, mark, index, segment, codon position, distance, codon number.
     pub(crate) fn from_words(words: &[i64; 7]) -> Self {
         let [kind, mark, index, segment, position, distance, number] = *words;
@@ -133,42 +186,4 @@ impl VariantLocation {
             _ => unreachable!("a kind is 0 to 12"),
         }
     }
-}
-
-/// The refusal, or the words behind the number 0.
-pub(crate) fn answered<const N: usize>(words: &[i64]) -> Result<&[i64; N], Refusal> {
-    judged(words[0] as u8)?;
-    Ok(words[1..].first_chunk().expect("the words of an answer"))
-}
-
-/// The place of the base at `start`; `[start, end)` must not be empty.
-pub fn place(
-    chromosome: u16,
-    start: u64,
-    end: u64,
-    transcript: &Transcript,
-) -> Result<VariantLocation, Refusal> {
-    let mut out = [0; 8];
-    // SAFETY: each pointer comes with the length of its slice.
-    judged(unsafe {
-        crate::ask_raw!(vareffect_place(
-            chromosome, start, end; transcript; out.as_mut_ptr(), out.len()))
-    })?;
-    answered(&out).map(VariantLocation::from_words)
-}
-
-/// The place of each position, the transcript judged and its index built once.
-pub fn places(
-    chromosome: u16,
-    positions: &[u64],
-    transcript: &Transcript,
-) -> Result<Vec<Result<VariantLocation, Refusal>>, Refusal> {
-    let mut out = vec![0; 8 * positions.len()];
-    // SAFETY: each pointer comes with the length of its slice.
-    judged(unsafe {
-        crate::ask_raw!(vareffect_places(
-            chromosome, positions.as_ptr(), positions.len(); transcript; out.as_mut_ptr(), out.len()))
-    })?;
-    let one = |words| answered(words).map(VariantLocation::from_words);
-    Ok(out.chunks_exact(8).map(one).collect())
 }
