@@ -3,6 +3,7 @@
 use super::decks;
 use super::judge::{self, Window};
 use super::lent::Lent;
+use super::listings;
 use super::made;
 use crate::driver::admission;
 use crate::driver::answer::Subject;
@@ -10,7 +11,7 @@ use crate::driver::call;
 use crate::driver::record::Tx;
 use crate::driver::rng::Rng;
 use std::fmt::Write;
-use vareffect_proved::{self as proved, Call, Refusal, Transcript};
+use vareffect_proved::{self as proved, Call, Deck, Listing, Refusal, Transcript};
 
 /// What was asked and where answers differ: the smallest such input.
 struct Tally {
@@ -82,7 +83,7 @@ fn told(tx: &Tx) -> String {
 }
 
 fn numbered<T>(answer: &Result<T, Refusal>) -> u8 {
-    answer.as_ref().err().map_or(0, |refusal| refusal.0)
+    answer.as_ref().err().map_or(0, |refusal| refusal.number)
 }
 
 /// An altered transcript: is it admitted, and by every question alike?
@@ -92,17 +93,17 @@ fn admissions(rng: &mut Rng, tx: &Tx, tally: &mut Tally) {
     let t = lent.transcript();
     let due = admission::admit(tx.clone()).err().unwrap_or(0);
     let got = [
-        numbered(&proved::admit(&t)),
-        numbered(&proved::places(1, &[], &t)),
-        numbered(&proved::calls(EMPTY, &[], &t)),
-        numbered(&proved::interval(tx.chrom, 0, 0, &t)),
+        numbered(&t.admit()),
+        numbered(&t.places(1, &[])),
+        numbered(&t.calls(EMPTY, &[])),
+        numbered(&t.interval(tx.chrom, 0, 0)),
     ];
     tally.count(got == [due; 4], due != 0, || {
         format!("{}\nadmit: the Rust {due}, the library {got:?}", told(&tx))
     });
 }
 
-/// A deck of some transcripts, at times altered or spoilt.
+/// A deck of some transcripts, at times altered or spoilt: is it accepted, which transcripts has it, and what is listed?
 fn deck(rng: &mut Rng, tx: &Tx, tally: &mut Tally) {
     let mut all = vec![tx.clone()];
     for id in 0..rng.below(4) {
@@ -112,14 +113,42 @@ fn deck(rng: &mut Rng, tx: &Tx, tally: &mut Tally) {
         let one = rng.below(all.len() as u32) as usize;
         all[one] = made::altered(rng, &all[one]);
     }
+    // A deck has selenocysteine bases only behind the bounds of a CDS.
+    for tx in all.iter_mut().filter(|tx| tx.cds.is_none()) {
+        tx.sec.clear();
+    }
     let mut bytes = decks::encode(&all);
-    if rng.chance(50) {
+    let whole = !rng.chance(50);
+    if !whole {
         decks::spoil(rng, &mut bytes);
     }
+    let s = Subject::new(tx.clone());
+    let window = listings::window_file(rng, &s);
+    let calls = listings::call_file(rng, &s, &window);
     let due = decks::judge(&bytes);
-    let got = proved::deck_ids(&bytes).map_err(|r| (r.number, usize::from(r.record)));
-    tally.count(due == got, due.is_err(), || {
-        format!("deck {bytes:?}: the Rust {due:?}, the library {got:?}")
+    let got = Deck::read(&bytes);
+    let alike = match (&due, &got) {
+        (Ok(due), Ok(deck)) => {
+            let lines = listings::lines(due, &window, &calls);
+            // A deck that was not spoilt has the transcripts that it was made from.
+            decks::same_transcripts(deck, due.iter().map(|s| &s.tx))
+                && (!whole || decks::same_transcripts(deck, all.iter()))
+                && Deck::check(&bytes) == Ok(())
+                && Deck::ids(&bytes) == Ok(due.iter().map(|s| s.tx.id).collect())
+                && listings::same_pieces(rng, &deck.list(&window, &calls), &lines)
+        }
+        (Err((number, record)), Err(got)) => {
+            let line = format!("0 {record} {number}\n").into_bytes();
+            (*number, Some(*record)) == (got.number, got.record.map(usize::from))
+                && Deck::check(&bytes) == Err(*got)
+                && Deck::ids(&bytes) == Err(*got)
+                && listings::same_pieces(rng, &Listing::of_files(&bytes, &window, &calls), &[line])
+        }
+        _ => false,
+    };
+    tally.count(alike, due.is_err(), || {
+        let due = due.map(|due| due.len());
+        format!("deck {bytes:?}\nwindow {window:?}\ncalls {calls:?}: the Rust {due:?}, the library {got:?}")
     });
 }
 
@@ -137,7 +166,7 @@ fn places(rng: &mut Rng, s: &Subject, t: &Transcript, tally: &mut Tally) {
         rng.below(27) as u16
     };
     let positions: Vec<u64> = (0..100).map(|_| made::position(rng, &s.tx)).collect();
-    let list = proved::places(chromosome, &positions, t);
+    let list = t.places(chromosome, &positions);
     for (i, &start) in positions.iter().enumerate() {
         let length = if rng.chance(90) {
             1
@@ -146,10 +175,10 @@ fn places(rng: &mut Rng, s: &Subject, t: &Transcript, tally: &mut Tally) {
         };
         let end = start.saturating_add(length);
         let due = judge::place(s, chromosome, start, end);
-        let got = proved::place(chromosome, start, end, t);
+        let got = t.place(chromosome, start, end);
         let alike = match (&due, &got) {
             (Ok(due), Ok(got)) => judge::same_place(due, got),
-            (Err(due), Err(got)) => *due == got.0,
+            (Err(due), Err(got)) => *due == got.number,
             _ => false,
         };
         // In a list the question is [start, start + 1).
@@ -176,7 +205,9 @@ fn intervals(rng: &mut Rng, s: &Subject, t: &Transcript, tally: &mut Tally) {
         };
         let (start, end) = made::interval(rng, &s.tx);
         let due = judge::interval(s, chromosome, start, end);
-        let got = proved::interval(chromosome, start, end, t).map_err(|refusal| refusal.0);
+        let got = t
+            .interval(chromosome, start, end)
+            .map_err(|refusal| refusal.number);
         tally.count(due == got, due.is_err(), || {
             format!(
                 "{}\ninterval {chromosome} {start} {end}: the Rust {due:?}, the library {got:?}",
@@ -199,16 +230,16 @@ fn calls(rng: &mut Rng, s: &Subject, t: &Transcript, tally: &mut Tally, lines: &
         .collect();
     let fasta = call::window(&s.tx, first, bytes);
     let window = Window { chromosome, fasta };
-    let list = proved::calls(judge::lent(&window), &asked, t);
+    let list = t.calls(judge::lent(&window), &asked);
     for (i, &one) in asked.iter().enumerate() {
         let due = judge::call(s, &window, &one);
-        let got = proved::call(judge::lent(&window), one, t);
+        let got = t.call(judge::lent(&window), one);
         let place = judge::place(s, own, one.position, one.position.saturating_add(1));
         let alike = match (&due, &got) {
             (Ok(due), Ok(got)) => place
                 .as_ref()
                 .is_ok_and(|place| judge::same_answer(place, due, got)),
-            (Err(due), Err(got)) => *due == got.0,
+            (Err(due), Err(got)) => *due == got.number,
             _ => false,
         };
         let listed = list.as_ref().is_ok_and(|list| list[i] == got);
@@ -222,7 +253,7 @@ fn calls(rng: &mut Rng, s: &Subject, t: &Transcript, tally: &mut Tally, lines: &
         });
         let number = rng.next() >> rng.below(64);
         let written = judge::line(number, s.tx.id, &place, &due);
-        let got = proved::line(number, judge::lent(&window), one, t);
+        let got = t.line(number, judge::lent(&window), one);
         lines.count(written == got, due.is_err(), || {
             format!(
                 "{}\nwindow {chromosome} {first} {}\n{one:?}: the Rust {}, the library {}",

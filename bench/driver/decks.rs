@@ -1,9 +1,12 @@
 //! Decks, whole and with bytes changed.
 
+use super::lent::Lent;
 use crate::driver::admission;
+use crate::driver::answer::Subject;
 use crate::driver::deck;
 use crate::driver::record::{Tx, put16, put32};
 use crate::driver::rng::Rng;
+use vareffect_proved::Deck;
 
 /// Chains of records: `next` links all but the last to the record behind it.
 fn chain(deck: &mut Vec<u8>, kind: u8, count: usize, mut rest: impl FnMut(usize) -> (u8, Vec<u8>)) {
@@ -101,15 +104,21 @@ pub fn spoil(rng: &mut Rng, deck: &mut Vec<u8>) {
     }
 }
 
-/// The ids, or number and record of the refusal.
-pub fn judge(bytes: &[u8]) -> Result<Vec<u32>, (u8, usize)> {
+/// The transcripts in the deck's order, or number and record of the refusal.
+pub fn judge(bytes: &[u8]) -> Result<Vec<Subject>, (u8, usize)> {
     let entries = deck::read(bytes).map_err(|refused| (refused.number, refused.record))?;
-    let mut ids = Vec::new();
-    for entry in entries {
-        ids.push(entry.tx.id);
-        if let Err(number) = admission::admit(entry.tx) {
-            return Err((number, entry.record));
-        }
-    }
-    Ok(ids)
+    let admit = |entry: deck::Entry| {
+        let record = entry.record;
+        admission::admit(entry.tx).map_err(|number| (number, record))
+    };
+    entries.into_iter().map(admit).collect()
+}
+
+/// Whether a deck gives these transcripts, in every field.
+pub fn same_transcripts<'a>(deck: &Deck, due: impl ExactSizeIterator<Item = &'a Tx>) -> bool {
+    deck.transcripts().len() == due.len()
+        && deck
+            .transcripts()
+            .zip(due)
+            .all(|(got, tx)| got == Lent::new(tx).transcript())
 }

@@ -4,6 +4,7 @@ mod compare;
 mod decks;
 mod judge;
 mod lent;
+mod listings;
 mod made;
 mod time;
 

@@ -11,7 +11,7 @@ use crate::fasta::FastaReader;
 use crate::locate::{LocateIndex, locate_variant};
 use std::hint::black_box;
 use std::time::Instant;
-use vareffect_proved::{Transcript, ask_raw};
+use vareffect_proved::{Call, Refusal, Transcript, Window};
 
 /// How many exons the transcripts have.
 const SIZES: [u32; 5] = [1, 10, 100, 363, 512];
@@ -83,18 +83,12 @@ fn case(rng: &mut Rng, count: u32, minus: bool) -> Case {
     }
 }
 
-fn proved_places(t: &Transcript, places: &[u64], out: &mut [i64]) -> u8 {
-    unsafe {
-        ask_raw!(vareffect_places(
-            t.chromosome, places.as_ptr(), places.len(); t; out.as_mut_ptr(), out.len()))
-    }
+fn proved_places(t: &Transcript, places: &[u64], out: &mut [i64]) -> Result<(), Refusal> {
+    t.places_into(t.chromosome, places, out)
 }
 
-fn proved_place(t: &Transcript, at: u64, out: &mut [i64]) -> u8 {
-    unsafe {
-        ask_raw!(vareffect_place(
-            t.chromosome, at, at + 1; t; out.as_mut_ptr(), out.len()))
-    }
+fn proved_place(t: &Transcript, at: u64, out: &mut [i64; 8]) -> Result<(), Refusal> {
+    t.place_into(t.chromosome, at, at + 1, out)
 }
 
 struct Lists {
@@ -113,22 +107,43 @@ fn lists(c: &Case) -> Lists {
     }
 }
 
-fn proved_calls(t: &Transcript, w: &FastaReader, l: &Lists, out: &mut [i64]) -> u8 {
-    unsafe {
-        ask_raw!(vareffect_calls(
-            t.chromosome, w.first, w.bytes.as_ptr(), w.bytes.len(),
-            l.chromosomes.as_ptr(), l.chromosomes.len(), l.positions.as_ptr(), l.positions.len(),
-            l.refs.as_ptr(), l.refs.len(), l.alts.as_ptr(), l.alts.len();
-            t; out.as_mut_ptr(), out.len()))
+fn lent<'a>(t: &Transcript, w: &'a FastaReader) -> Window<'a> {
+    Window {
+        chromosome: t.chromosome,
+        first: w.first,
+        bases: &w.bytes,
     }
 }
 
-fn proved_call(t: &Transcript, w: &FastaReader, c: (u64, u8, u8), out: &mut [i64]) -> u8 {
-    unsafe {
-        ask_raw!(vareffect_call(
-            t.chromosome, w.first, w.bytes.as_ptr(), w.bytes.len(),
-            t.chromosome, c.0, c.1, c.2; t; out.as_mut_ptr(), out.len()))
-    }
+fn proved_calls(
+    t: &Transcript,
+    w: &FastaReader,
+    l: &Lists,
+    out: &mut [i64],
+) -> Result<(), Refusal> {
+    t.calls_into(
+        lent(t, w),
+        &l.chromosomes,
+        &l.positions,
+        &l.refs,
+        &l.alts,
+        out,
+    )
+}
+
+fn proved_call(
+    t: &Transcript,
+    w: &FastaReader,
+    c: (u64, u8, u8),
+    out: &mut [i64; 20],
+) -> Result<(), Refusal> {
+    let call = Call {
+        chromosome: t.chromosome,
+        position: c.0,
+        ref_base: c.1,
+        alt_base: c.2,
+    };
+    t.call_into(lent(t, w), call, out)
 }
 
 fn build(s: &Subject) -> LocateIndex {
@@ -145,13 +160,13 @@ fn time_build(count: u32, strand: &str, c: &Case) {
     let t = c.lent.transcript();
     let admit = best(16, || {
         for _ in 0..16 {
-            assert_eq!(unsafe { ask_raw!(vareffect_admit(; black_box(&t);)) }, 0);
+            assert_eq!(black_box(&t).admit(), Ok(()));
         }
     });
     line(&format!("build / admit, {strand}"), count, theirs, admit);
     let index = best(16, || {
         for _ in 0..16 {
-            assert_eq!(proved_places(black_box(&t), &[], &mut []), 0);
+            assert_eq!(proved_places(black_box(&t), &[], &mut []), Ok(()));
         }
     });
     line(
@@ -173,7 +188,7 @@ fn time_places(count: u32, c: &Case, order: &str, places: &[u64]) {
     let t = c.lent.transcript();
     let mut out = vec![0; 8 * MANY];
     let ours = best(MANY, || {
-        assert_eq!(proved_places(&t, black_box(places), &mut out), 0);
+        assert_eq!(proved_places(&t, black_box(places), &mut out), Ok(()));
         black_box(&out);
     });
     line(&format!("place, list, {order}"), count, theirs, ours);
@@ -185,9 +200,10 @@ fn time_places(count: u32, c: &Case, order: &str, places: &[u64]) {
             let _ = black_box(place.expect("a place"));
         }
     });
+    let mut one = [0; 8];
     let ours = best(few.len(), || {
         for &at in few {
-            assert_eq!(proved_place(&t, black_box(at), &mut out[..8]), 0);
+            assert_eq!(proved_place(&t, black_box(at), &mut one), Ok(()));
         }
     });
     line(&format!("place, single, {order}"), count, theirs, ours);
@@ -218,7 +234,10 @@ fn time_calls(count: u32, strand: &str, c: &Case) {
     let lists = lists(c);
     let mut out = vec![0; 20 * MANY];
     let ours = best(MANY, || {
-        assert_eq!(proved_calls(&t, &c.fasta, black_box(&lists), &mut out), 0);
+        assert_eq!(
+            proved_calls(&t, &c.fasta, black_box(&lists), &mut out),
+            Ok(())
+        );
         black_box(&out);
     });
     line(&format!("exonic call, list, {strand}"), count, theirs, ours);
@@ -229,12 +248,10 @@ fn time_calls(count: u32, strand: &str, c: &Case) {
             rust_call(c, &index, call);
         }
     });
+    let mut one = [0; 20];
     let ours = best(few.len(), || {
         for &call in few {
-            assert_eq!(
-                proved_call(&t, &c.fasta, black_box(call), &mut out[..20]),
-                0
-            );
+            assert_eq!(proved_call(&t, &c.fasta, black_box(call), &mut one), Ok(()));
         }
     });
     line(
@@ -251,16 +268,16 @@ pub fn spin(what: &str, count: u32, rounds: Option<u32>) -> bool {
     let t = c.lent.transcript();
     let lists = lists(&c);
     let mut out = vec![0; 20 * MANY];
-    let mut work: Box<dyn FnMut() -> u8> = match what {
-        "admit" => Box::new(|| unsafe { ask_raw!(vareffect_admit(; black_box(&t);)) }),
+    let mut work: Box<dyn FnMut() -> Result<(), Refusal>> = match what {
+        "admit" => Box::new(|| black_box(&t).admit()),
         "index" => Box::new(|| proved_places(black_box(&t), &[], &mut [])),
-        "place" => Box::new(|| proved_place(&t, black_box(c.places[0]), &mut out[..8])),
+        "place" => Box::new(|| proved_place(&t, black_box(c.places[0]), &mut [0; 8])),
         "places" => Box::new(|| proved_places(&t, black_box(&c.places), &mut out[..8 * MANY])),
-        "call" => Box::new(|| proved_call(&t, &c.fasta, black_box(c.calls[0]), &mut out[..20])),
+        "call" => Box::new(|| proved_call(&t, &c.fasta, black_box(c.calls[0]), &mut [0; 20])),
         "calls" => Box::new(|| proved_calls(&t, &c.fasta, black_box(&lists), &mut out)),
         _ => return false,
     };
-    let mut ask = |times| (0..times).for_each(|_| assert_eq!(work(), 0));
+    let mut ask = |times| (0..times).for_each(|_| assert_eq!(work(), Ok(())));
     if let Some(times) = rounds {
         ask(times);
         return true;
