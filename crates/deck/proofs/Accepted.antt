@@ -11,7 +11,6 @@ use borrow.Author.Tests.{eqb-true, eqb-false, ltb-false}
 use Rattle.deck.specs.declared.DeckAnswer.{DeckAnswer}
 use Rattle.deck.specs.declared.DeckAnswer.the-variants.{Accepted, Refused}
 use Rattle.deck.specs.declared.DeckTable.{DeckTable}
-use Rattle.deck.specs.declared.Deck.{Deck}
 use Rattle.deck.specs.declared.structure.Structure.{Structure}
 use Rattle.common.specs.Little.{at1}
 use Rattle.common.specs.Stored.{filled}
@@ -19,7 +18,7 @@ use Rattle.deck.specs.Records.{recordCount, kindOf, word}
 use Rattle.deck.specs.Walk.{walkDeck}
 use Rattle.deck.specs.code.Order.{orderOf}
 use Rattle.deck.specs.Deck.{badLength, structureOf, partsOf, admitted, readDeck, deckTranscripts}
-use Rattle.deck.specs.code.Table.{column, numberOf, tableOf, emptyTable, rowsFrom, tableTranscripts, admitRows, admitTable, tableAs, deckAs, deckOf}
+use Rattle.deck.specs.code.Table.{column, numberOf, tableOf, emptyTable, tableTranscripts, admitTable, deckTable}
 use Rattle.deck.specs.claims.Transcripts.{TableHolds}
 use Rattle.deck.proofs.Grown.{walk-order}
 use Rattle.deck.proofs.Distinct.{walk-few}
@@ -69,8 +68,8 @@ pub accepted-transcripts : (d : List ℕ) → readDeck d ≡ Accepted → tableT
 accepted-transcripts d e = sound-transcripts d (sound-deck d e .1)
 
 pub tableHolds : TableHolds
-unfolding deckOf
-tableHolds d e = ap (λ (a : DeckAnswer). tableTranscripts (tableAs a (tableOf d (orderOf (walkDeck d))))) e ∙ accepted-transcripts d e
+unfolding deckTable
+tableHolds d e = let s = sound-deck d e in rw (s .1) (accepted-transcripts d e)
 
 -- the code's columns are the table
 map-same : (f g : ℕ → ℕ) (is : List ℕ) → ((i : ℕ) → f i ≡ g i) → map f is ≡ map g is
@@ -80,32 +79,26 @@ map-same f g (i ∷ is) h = rw (h i, map-same f g is h)
 kinds-first : (d o : List ℕ) → column (λ i. at1 d (16 * i + 0)) o ≡ column (kindOf d) o
 kinds-first d o = ap (λ (l : List ℕ). filled 4096 l) (map-same (λ i. at1 d (16 * i + 0)) (kindOf d) o (λ i. let e : 16 * i + 0 ≡ 16 * i = omega arith in rw e))
 
-module _ (d o : List ℕ) {records kinds marks ids numbers starts ends : List ℕ}
-    (er : records ≡ column (λ i. i) o) (ek : kinds ≡ column (λ i. at1 d (16 * i + 0)) o) (em : marks ≡ column (λ i. at1 d (16 * i + 1)) o)
-    (ei : ids ≡ column (λ i. word d i 4) o) (en : numbers ≡ column (numberOf d) o) (es : starts ≡ column (λ i. word d i 4) o) (ee : ends ≡ column (λ i. word d i 8) o) where
-  abbrev made : DeckTable
-  made = record { kinds = kinds; marks = marks; ids = ids; numbers = numbers; starts = starts; ends = ends }
-
-  tabled : made ≡ tableOf d o
-  tabled = rw (ek ∙ kinds-first d o, em, ei, en, es, ee)
-
-  table-answer : {a : DeckAnswer} → a ≡ admitRows records made (rowsFrom 4096 kinds 0) → a ≡ admitTable o (tableOf d o)
-  table-answer q = q ∙ rw er (ap (λ (t : DeckTable). admitRows (column (λ i. i) o) t (rowsFrom 4096 (t .kinds) 0)) tabled)
-
-  pub read-accepted : {a : DeckAnswer} → a ≡ admitRows records made (rowsFrom 4096 kinds 0) → a ≡ Accepted
-      → deckAs Accepted made ≡ deckAs (admitTable o (tableOf d o)) (tableOf d o)
-  read-accepted q e = let w = sym (table-answer q) ∙ e in rw w (ap (λ (t : DeckTable). deckAs Accepted t) tabled)
-
-  pub read-refused : {a : DeckAnswer} {r : Deck} {n i : ℕ} → a ≡ admitRows records made (rowsFrom 4096 kinds 0) → a ≡ Refused n i → r ≡ deckAs (Refused n i) emptyTable
-      → r ≡ deckAs (admitTable o (tableOf d o)) (tableOf d o)
-  read-refused q e f = let w = sym (table-answer q) ∙ e in rw w f
+pub tabled : (d o : List ℕ) {kinds marks ids numbers starts ends : List ℕ}
+    → kinds ≡ column (λ i. at1 d (16 * i + 0)) o → marks ≡ column (λ i. at1 d (16 * i + 1)) o → ids ≡ column (λ i. word d i 4) o
+    → numbers ≡ column (numberOf d) o → starts ≡ column (λ i. word d i 4) o → ends ≡ column (λ i. word d i 8) o
+    → (record { kinds = kinds; marks = marks; ids = ids; numbers = numbers; starts = starts; ends = ends }) ≡ tableOf d o
+tabled d o ek em ei en es ee = rw (ek ∙ kinds-first d o, em, ei, en, es, ee)
 
 -- a deck refused by its records or links, and one that is sound
-pub refused-deck : (d : List ℕ) {r : Deck} {n i : ℕ} → structureOf d ≡ Structure.Refused n i → r ≡ deckAs (Refused n i) emptyTable → r ≡ deckOf d
-unfolding deckOf readDeck
-refused-deck d s e = rw s e
+module _ (d : List ℕ) where
+  pub refused-answer : {n i : ℕ} → structureOf d ≡ Structure.Refused n i → Refused n i ≡ readDeck d
+  unfolding readDeck
+  refused-answer s = rw s
 
-pub sound-read : (d o : List ℕ) {r : Deck} {n : ℕ} → structureOf d ≡ Structure.Records n → o ≡ orderOf (walkDeck d)
-    → r ≡ deckAs (admitTable o (tableOf d o)) (tableOf d o) → r ≡ deckOf d
-unfolding deckOf
-sound-read d o s q e = e ∙ rw (q, sound-admission d s)
+  pub refused-table : {n i : ℕ} {t : DeckTable} → structureOf d ≡ Structure.Refused n i → t ≡ emptyTable → t ≡ deckTable d
+  unfolding deckTable
+  refused-table s e = e ∙ rw s
+
+  module _ {o : List ℕ} {n : ℕ} {t : DeckTable} (s : structureOf d ≡ Structure.Records n) (q : o ≡ orderOf (walkDeck d)) (e : t ≡ tableOf d o) where
+    pub sound-answer : {a : DeckAnswer} → a ≡ admitTable o t → a ≡ readDeck d
+    sound-answer h = h ∙ rw (e, q) (sound-admission d s)
+
+    pub sound-table : t ≡ deckTable d
+    unfolding deckTable
+    sound-table = e ∙ rw (s, q)

@@ -21,7 +21,6 @@ use Rattle.deck.specs.Records.{recordCount, nextOf}
 use Rattle.deck.specs.Walk.{Parts, walkDeck, walkedAs}
 use Rattle.deck.specs.Deck.{transcriptOf, admittedThen, admitAll, badLength, firstBad, linkAnswer, structureOf, partsOf, admitted, readDeck}
 use Rattle.deck.specs.Numbers.{deckNumber, deckRecord, deckValues, isAccepted}
-use Rattle.deck.specs.code.Table.{deckOf}
 use Rattle.deck.specs.claims.Numbers.{deckNumbers, DeckGiven, DeckValued}
 
 -- the number of an answer is one of a deck's, 0 exactly where the deck is accepted
@@ -63,7 +62,7 @@ module _ (d : List ℕ) where
       (λ g. rw (e, f, g) (link-given (walkedAs d (walkDeck d))))))
 
 pub deckGiven : DeckGiven
-unfolding deckOf readDeck
+unfolding readDeck
 deckGiven d = structure-given d
 
 answer-valued : (a : DeckAnswer) → deckValues a ≡ cond (isAccepted a) [] (deckRecord a ∷ [])
@@ -71,5 +70,4 @@ answer-valued Accepted = refl
 answer-valued (Refused n i) = refl
 
 pub deckValued : DeckValued
-unfolding deckOf
 deckValued d = answer-valued (readDeck d)

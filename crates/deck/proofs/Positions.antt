@@ -1,11 +1,12 @@
 -- Records at a position of the walk's order, read from the columns.
 -- Assumes nothing.
 use Prim.Native.Nat.{ℕ, _+_, _-_, _≤_, _<_}
-use mathlib.Core.Path.{_≡_, refl, sym, _∙_}
+use mathlib.Core.Path.{_≡_, refl, sym, _∙_, ap}
 use mathlib.Core.Bool.{Bool, true, false, cond}
 use mathlib.Core.List.{List, [], _∷_, _++_, map}
 use native.Mathlib.Omega.{arith}
 use lib.ListN.{length, getD, length-map}
+use lib.Seq.{getD-append-add}
 use lib.Dec.{eqb}
 use borrow.Author.Tests.{eq-eqb}
 use Rattle.transcript.specs.Transcript.{exonsOf, segmentsOf, evenLists}
@@ -48,6 +49,12 @@ module _ {o : List ℕ} (l m r : List ℕ) (e : o ≡ l ++ (m ++ r)) {n : ℕ} (
 
 pub at-row : {o : List ℕ} (l : List ℕ) (x : ℕ) (r : List ℕ) → o ≡ l ++ (x ∷ r) → {n : ℕ} → n ≡ length l → (f : ℕ → ℕ) → getD (column f o) n 0 ≡ f x
 at-row l x r e en f = rw (e, en) (column-first f l x r)
+
+-- and in the order itself
+pub at-first : {o : List ℕ} (l : List ℕ) (x : ℕ) (r : List ℕ) → o ≡ l ++ (x ∷ r) → getD o (length l) 0 ≡ x
+at-first l x r e =
+    let n : length l ≡ length l + 0 = omega arith in
+    rw e (ap (λ (i : ℕ). getD (l ++ (x ∷ r)) i 0) n ∙ getD-append-add l (x ∷ r) 0 0)
 
 pub few-bounds : (b : ℕ) → length (boundsList b) ≤ 1
 few-bounds b = here (eqb b 0)

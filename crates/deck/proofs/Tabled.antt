@@ -14,7 +14,7 @@ use Rattle.deck.proofs.Grown.{AllKinds}
 use Rattle.deck.proofs.RowOrder.{rowsOn, rows-here, rows-none}
 use Rattle.deck.proofs.KindRuns.{firstKind, row-other}
 use Rattle.deck.proofs.Block.{block-rows, block-transcript}
-use Rattle.deck.proofs.Positions.{at-row}
+use Rattle.deck.proofs.Positions.{at-row, at-first}
 
 -- transcripts begin with a record of kind 1
 first-transcript : (d : List ℕ) (ps : List Parts) → AllKinds d ps → (k : ℕ) → 1 < k → firstKind d (recordsOf ps) ≡ k → ⊥
@@ -45,7 +45,7 @@ block-length p =
 -- the transcripts behind `pre`
 pub rows-transcripts : (d pre : List ℕ) (ps : List Parts) (o : List ℕ) → AllKinds d ps → o ≡ pre ++ recordsOf ps → length o < 4096
     → (map (transcriptAt (tableOf d o)) (rowsOn (column (kindOf d) o) (length pre)) ≡ map (transcriptOf d) ps)
-    × (admitRows (column (λ i. i) o) (tableOf d o) (rowsOn (column (kindOf d) o) (length pre)) ≡ admitAll d ps)
+    × (admitRows o (tableOf d o) (rowsOn (column (kindOf d) o) (length pre)) ≡ admitAll d ps)
 unfolding recordsOf admitRows admitAll
 rows-transcripts d pre [] o h e room =
     let n : length pre < 4096 = (let l = ap length e in let m = length-append pre [] in omega arith) in
@@ -63,6 +63,6 @@ rows-transcripts d pre (p ∷ ps) o h e room =
     let w = block-rows d pre p (recordsOf ps) (h .0) o eo room (first-transcript d ps (h .1)) in
     let q : rowsAt (column (kindOf d) o) (length pre) .bases ≡ length (pre ++ block) = rw w (omega arith) in
     let t = block-transcript d pre p (recordsOf ps) (h .0) o eo room (first-transcript d ps (h .1)) in
-    let i = at-row pre (p .transcript) (p .exons ++ (boundsList (p .bounds) ++ (p .segments ++ (p .selenocysteine ++ recordsOf ps)))) eo refl (λ j. j) in
+    let i = at-first pre (p .transcript) (p .exons ++ (boundsList (p .bounds) ++ (p .segments ++ (p .selenocysteine ++ recordsOf ps)))) eo in
     let on = rows-transcripts d (pre ++ block) ps o (h .1) after room in
     (rw (r, t, q, on .0), rw (r, t, i, q, on .1))

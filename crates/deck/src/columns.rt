@@ -1,70 +1,50 @@
-// The records of a deck in the order of the walk, a column for each field.
+// The records of a deck in the order of the walk, a column for each field. A column comes as zeros, and stays so behind the records.
 use crate::record::byte_of;
 use crate::record::half_of;
 use crate::record::kind_of;
 use crate::record::word_of;
 ghost use Prim.Native.Nat.{_+_, _*_, _≤_};
 ghost use mathlib.Core.Path.{_≡_};
-ghost use lib.ListN.{length};
+ghost use lib.ListN.{length, replicate};
 ghost use Rattle.common.specs.Little.{at1};
 ghost use Rattle.deck.specs.Records.{word};
 ghost use Rattle.deck.specs.code.Reached.{InDeck};
 ghost use Rattle.deck.specs.code.Table.{column, numberOf};
 
-// The records themselves.
-pub(crate) fn records_of(order: &[u16]) -> [u16; 4096]
-    requires { ⌜ length (now order) ≤ 4096 ⌝ }
-    ensures { λ r. ⌜ r ≡ column (λ i. i) (now order.entry) ⌝ }
-{
-    let mut out = [0u16; 4096];
-    let mut i = 0;
-    while i < order.len() {
-        out[i] = order[i];
-        i += 1;
-    }
-    out
-}
-
 // Byte k of each record.
-pub(crate) fn bytes_of(d: &[u8], order: &[u16], k: usize) -> [u8; 4096]
-    requires { ⌜ (length (now order) ≤ 4096) × InDeck (now d) (now order) × (k ≤ 15) ⌝ }
-    ensures { λ r. ⌜ r ≡ column (λ i. at1 (now d.entry) (16 * i + k)) (now order.entry) ⌝ }
+pub(crate) fn store_bytes(d: &[u8], order: &[u16], k: usize, out: &mut [u8; 4096])
+    requires { ⌜ (length (now order) ≤ 4096) × InDeck (now d) (now order) × (k ≤ 15) × (now out ≡ replicate 4096 0) ⌝ }
+    ensures { λ _. ⌜ now out.exit ≡ column (λ i. at1 (now d.entry) (16 * i + k)) (now order.entry) ⌝ }
 {
-    let mut out = [0u8; 4096];
     let mut i = 0;
     while i < order.len() {
         out[i] = byte_of(d, order[i] as usize, k);
         i += 1;
     }
-    out
 }
 
 // Bytes 4..8 of each record.
-pub(crate) fn ids_of(d: &[u8], order: &[u16]) -> [u32; 4096]
-    requires { ⌜ (length (now order) ≤ 4096) × InDeck (now d) (now order) ⌝ }
-    ensures { λ r. ⌜ r ≡ column (λ i. word (now d.entry) i 4) (now order.entry) ⌝ }
+pub(crate) fn store_ids(d: &[u8], order: &[u16], out: &mut [u32; 4096])
+    requires { ⌜ (length (now order) ≤ 4096) × InDeck (now d) (now order) × (now out ≡ replicate 4096 0) ⌝ }
+    ensures { λ _. ⌜ now out.exit ≡ column (λ i. word (now d.entry) i 4) (now order.entry) ⌝ }
 {
-    let mut out = [0u32; 4096];
     let mut i = 0;
     while i < order.len() {
         out[i] = word_of(d, order[i] as usize, 4);
         i += 1;
     }
-    out
 }
 
 // The four bytes from k on of each record, wide.
-pub(crate) fn words_of(d: &[u8], order: &[u16], k: usize) -> [u64; 4096]
-    requires { ⌜ (length (now order) ≤ 4096) × InDeck (now d) (now order) × (k ≤ 12) ⌝ }
-    ensures { λ r. ⌜ r ≡ column (λ i. word (now d.entry) i k) (now order.entry) ⌝ }
+pub(crate) fn store_words(d: &[u8], order: &[u16], k: usize, out: &mut [u64; 4096])
+    requires { ⌜ (length (now order) ≤ 4096) × InDeck (now d) (now order) × (k ≤ 12) × (now out ≡ replicate 4096 0) ⌝ }
+    ensures { λ _. ⌜ now out.exit ≡ column (λ i. word (now d.entry) i k) (now order.entry) ⌝ }
 {
-    let mut out = [0u64; 4096];
     let mut i = 0;
     while i < order.len() {
         out[i] = word_of(d, order[i] as usize, k) as u64;
         i += 1;
     }
-    out
 }
 
 // The chromosome of a transcript, the exon index of a segment.
@@ -78,15 +58,13 @@ fn number_of(d: &[u8], i: usize) -> u16
     half_of(d, i, 12)
 }
 
-pub(crate) fn numbers_of(d: &[u8], order: &[u16]) -> [u16; 4096]
-    requires { ⌜ (length (now order) ≤ 4096) × InDeck (now d) (now order) ⌝ }
-    ensures { λ r. ⌜ r ≡ column (numberOf (now d.entry)) (now order.entry) ⌝ }
+pub(crate) fn store_numbers(d: &[u8], order: &[u16], out: &mut [u16; 4096])
+    requires { ⌜ (length (now order) ≤ 4096) × InDeck (now d) (now order) × (now out ≡ replicate 4096 0) ⌝ }
+    ensures { λ _. ⌜ now out.exit ≡ column (numberOf (now d.entry)) (now order.entry) ⌝ }
 {
-    let mut out = [0u16; 4096];
     let mut i = 0;
     while i < order.len() {
         out[i] = number_of(d, order[i] as usize);
         i += 1;
     }
-    out
 }

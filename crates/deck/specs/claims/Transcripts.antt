@@ -4,7 +4,7 @@ use mathlib.Core.Path.{_≡_}
 use mathlib.Core.List.{List}
 use Rattle.deck.specs.declared.DeckAnswer.{DeckAnswer}
 use Rattle.deck.specs.Deck.{readDeck, deckTranscripts}
-use Rattle.deck.specs.code.Table.{tableTranscripts, deckOf}
+use Rattle.deck.specs.code.Table.{tableTranscripts, deckTable}
 
 abbrev pub TableHolds : Type 0
-TableHolds = (d : List ℕ) → readDeck d ≡ DeckAnswer.Accepted → tableTranscripts (deckOf d .table) ≡ deckTranscripts d
+TableHolds = (d : List ℕ) → readDeck d ≡ DeckAnswer.Accepted → tableTranscripts (deckTable d) ≡ deckTranscripts d

@@ -17,12 +17,12 @@ use Rattle.transcript.specs.Admission.{admissionOf}
 use Rattle.deck.specs.declared.DeckAnswer.{DeckAnswer}
 use Rattle.deck.specs.declared.DeckAnswer.the-variants.{Accepted, Refused}
 use Rattle.deck.specs.declared.DeckTable.{DeckTable}
-use Rattle.deck.specs.declared.Deck.{Deck}
+use Rattle.deck.specs.declared.structure.Structure.{Structure}
 use Rattle.deck.specs.declared.rows.Rows.{Rows}
 use Rattle.deck.specs.Records.{lowest, kindOf, markOf, half, word, transcriptKind, boundsKind, exonKind, segmentKind, selenocysteineKind}
 use Rattle.deck.specs.Walk.{walkDeck}
 use Rattle.deck.specs.code.Order.{orderOf}
-use Rattle.deck.specs.Deck.{strandOf, startComplete, txBounds, admittedThen, readDeck}
+use Rattle.deck.specs.Deck.{strandOf, startComplete, txBounds, admittedThen, structureOf}
 
 -- the table whose columns are given, as a `requires` names them, and that was given, as an `ensures` does
 abbrev pub tableGiven : Slice → Slice → Slice → Slice → Slice → Slice → DeckTable
@@ -32,6 +32,10 @@ tableGiven kinds marks ids numbers starts ends =
 abbrev pub tableWasGiven : Passed → Passed → Passed → Passed → Passed → Passed → DeckTable
 tableWasGiven kinds marks ids numbers starts ends =
     tableGiven (kinds .entry) (marks .entry) (ids .entry) (numbers .entry) (starts .entry) (ends .entry)
+
+-- the table that is left in columns lent to be filled
+abbrev pub tableLeft : Passed → Passed → Passed → Passed → Passed → Passed → DeckTable
+tableLeft kinds marks ids numbers starts ends = tableGiven (kinds .exit) (marks .exit) (ids .exit) (numbers .exit) (starts .exit) (ends .exit)
 
 -- a column: one field of the records given, then zeros
 abbrev pub column : (ℕ → ℕ) → List ℕ → List ℕ
@@ -146,15 +150,12 @@ admitRows records t [] = Accepted
 admitRows records t (k ∷ ks) = admittedThen (admissionOf (transcriptAt t k)) (getD records k 0) (admitRows records t ks)
 
 abbrev pub admitTable : List ℕ → DeckTable → DeckAnswer
-admitTable records t = admitRows (column (λ i. i) records) t (transcriptRows t)
+admitTable records t = admitRows records t (transcriptRows t)
 
--- an answer with the table of an accepted deck; a table of zeros with a refusal
-abbrev pub tableAs : DeckAnswer → DeckTable → DeckTable
-tableAs Accepted t = t
-tableAs (Refused n i) t = emptyTable
+-- the table of a deck whose records and links are sound; of any other, zeros
+abbrev pub tableBy : List ℕ → Structure → DeckTable
+tableBy d (Structure.Records n) = tableOf d (orderOf (walkDeck d))
+tableBy d (Structure.Refused n i) = emptyTable
 
-abbrev pub deckAs : DeckAnswer → DeckTable → Deck
-deckAs a t = record { answer = a; table = tableAs a t }
-
-unfoldable pub deckOf : List ℕ → Deck
-deckOf d = deckAs (readDeck d) (tableOf d (orderOf (walkDeck d)))
+unfoldable pub deckTable : List ℕ → DeckTable
+deckTable d = tableBy d (structureOf d)

@@ -6,11 +6,11 @@ use native.Mathlib.Omega.{arith}
 use denote.Ref.{now}
 use lib.ListN.{length, take}
 use lib.Seq.{length-take-le}
-use borrow.Author.Needs.{needs}
 use Rattle.deck.specs.Walk.{walkDeck}
 use Rattle.deck.specs.code.Order.{orderOf}
 use Rattle.deck.proofs.Inside.{deck-in}
-use Rattle.deck.proofs.Accepted.{refused-deck, sound-read}
+use Rattle.deck.proofs.Accepted.{refused-answer, refused-table, sound-answer, sound-table}
+use borrow.Author.Needs.{needs}
 use Rattle.deck.proofs.read.read_deck.Statement.{statement}
 use Rattle.deck.proofs.read.read_deck.Tie as tie
 
@@ -26,30 +26,36 @@ judge-requires c κs = search needs
 enum-known-s : tie.Need-enum-known-s
 enum-known-s c = search needs
 
-refused-requires : tie.Need-refused-requires
-refused-requires c κs = search needs
-
 enum-known-s-2 : tie.Need-enum-known-s-2
 enum-known-s-2 c = search needs
 
 array-share-prefix-order : tie.Need-array-share-prefix-order
 array-share-prefix-order c = front c .1
 
-slice-aggregate-read-rows : tie.Need-slice-aggregate-read-rows
-slice-aggregate-read-rows c = sym (length-take-le (c .before .before .s2 .given .0 .0) (c .before .before .before .before .judge .last .1 .0) (front (c .before) .1))
+slice-aggregate-rows : tie.Need-slice-aggregate-rows
+slice-aggregate-rows c = sym (length-take-le (c .before .before .s2 .given .0 .0) (c .before .before .before .before .judge .last .1 .0) (front (c .before) .1))
 
-read-rows-requires : tie.Need-read-rows-requires
-read-rows-requires c κs =
-    let f = front (c .before) in
-    let l = length-take-le (c .before .before .s2 .given .0 .0) (c .before .before .before .before .judge .last .1 .0) (f .1) in
+store-rows-requires : tie.Need-store-rows-requires
+store-rows-requires c κs =
+    let f = front (c .before .before .before .before .before .before .before) in
+    let l = length-take-le (c .before .before .before .before .before .before .before .before .s2 .given .0 .0) (c .before .before .before .before .before .before .before .before .before .before .judge .last .1 .0) (f .1) in
     let p = f .0 in
-    (omega arith, rw (f .2) (deck-in (now (c .before .before .before .before .before .before .before .args .d))))
+    ((omega arith, rw (f .2) (deck-in (now (c .before .before .before .before .before .before .before .before .before .before .before .before .before .args .d)))), c .before .before .before .before .before .before .before .before .before .before .before .before .before .pre)
+
+admit-rows-requires : tie.Need-admit-rows-requires
+admit-rows-requires c κs = search needs
 
 returns : tie.Need-returns
-returns c = refused-deck (now (c .before .before .before .before .before .before .before .args .d)) (sym (c .before .before .before .before .judge .ensures .0) ∙ c .before .before .s .given .1) (c .refused .ensures)
+returns c =
+    let s = sym (c .before .before .before .judge .ensures .0) ∙ c .before .s .given .1 in
+    (refused-answer (now (c .before .before .before .before .before .before .args .d)) s, refused-table (now (c .before .before .before .before .before .before .args .d)) s (c .before .before .before .before .before .before .pre))
 
 returns-2 : tie.Need-returns-2
-returns-2 c = sound-read (now (c .before .before .before .before .before .before .before .before .args .d)) (take (c .before .before .before .s2 .given .0 .0) (c .before .before .before .before .before .judge .last .1 .0)) (sym (c .before .before .before .before .before .judge .ensures .0) ∙ c .before .before .before .s2 .given .1) (front (c .before .before) .2) (c .read-rows .ensures)
+returns-2 c =
+    let d = now (c .before .before .before .before .before .before .before .before .before .before .before .before .before .before .before .before .before .before .before .before .before .args .d) in
+    let s = sym (c .before .before .before .before .before .before .before .before .before .before .before .before .before .before .before .before .before .before .judge .ensures .0) ∙ c .before .before .before .before .before .before .before .before .before .before .before .before .before .before .before .before .s2 .given .1 in
+    let o = front (c .before .before .before .before .before .before .before .before .before .before .before .before .before .before .before) .2 in
+    (sound-answer d s o (c .before .before .before .before .before .before .before .store-rows .ensures) (c .admit-rows .ensures), sound-table d s o (c .before .before .before .before .before .before .before .store-rows .ensures))
 
 pub read-deck-spec : {M : Type 1} → statement M
 read-deck-spec =
@@ -57,10 +63,10 @@ read-deck-spec =
     (tie.spec
     judge-requires
     enum-known-s
-    refused-requires
     enum-known-s-2
     array-share-prefix-order
-    slice-aggregate-read-rows
-    read-rows-requires
+    slice-aggregate-rows
+    store-rows-requires
+    admit-rows-requires
     returns
     returns-2)

@@ -1,12 +1,12 @@
--- `deck::read::admit_row` meets its contract.
+-- `deck::admitting::admit_row` meets its contract.
 -- Assumes nothing.
 use mathlib.Core.Path.{_∙_, ap}
 use denote.Ref.{now}
 use borrow.Author.Needs.{needs}
 use Rattle.transcript.specs.Admission.{admissionOf}
 use Rattle.deck.proofs.Runs.{lent-in}
-use Rattle.deck.proofs.read.admit_row.Statement.{statement}
-use Rattle.deck.proofs.read.admit_row.Tie as tie
+use Rattle.deck.proofs.admitting.admit_row.Statement.{statement}
+use Rattle.deck.proofs.admitting.admit_row.Tie as tie
 
 model-in-requires : tie.Need-model-in-requires
 model-in-requires c κs = search needs

@@ -1,7 +1,7 @@
--- `deck::columns::bytes_of` meets its contract.
+-- `deck::columns::store_bytes` meets its contract.
 -- Assumes nothing.
 use Prim.Native.Nat.{_+_, _*_, _-_, _≤_}
-use mathlib.Core.Path.{_≡_, refl, _∙_}
+use mathlib.Core.Path.{_≡_, _∙_}
 use mathlib.Core.List.{map}
 use native.Mathlib.Omega.{arith}
 use denote.Ref.{now}
@@ -9,8 +9,8 @@ use lib.ListN.{length}
 use Rattle.common.proofs.Filling.{front}
 use Rattle.common.specs.Little.{at1}
 use Rattle.deck.proofs.Columned.{column-step, column-done, whole-record}
-use Rattle.deck.proofs.columns.bytes_of.Statement.{statement}
-use Rattle.deck.proofs.columns.bytes_of.Tie as tie
+use Rattle.deck.proofs.columns.store_bytes.Statement.{statement}
+use Rattle.deck.proofs.columns.store_bytes.Tie as tie
 
 abbrev Inv-loop : tie.InvT-loop
 Inv-loop d order k out₀ i₀ out i = (i ≤ length order) × (out ≡ front (map (λ j. at1 d (16 * j + k)) order) 4096 i)
@@ -19,7 +19,7 @@ abbrev μ-loop : tie.MeasureT-loop
 μ-loop d order k out₀ i₀ out i = length order - i
 
 loop-holds : tie.Need-loop-holds Inv-loop μ-loop
-loop-holds c = (omega arith, refl)
+loop-holds c = (omega arith, c .before .before .pre .3)
 
 mul-byte-of : tie.Need-mul-byte-of Inv-loop μ-loop
 mul-byte-of c = let h = c .before .before .before .before .pre in omega arith
@@ -33,8 +33,8 @@ cast-byte-of c = omega (arith, c .shared-slice-known3 .given (c .before .before 
 byte-of-requires : tie.Need-byte-of-requires Inv-loop μ-loop
 byte-of-requires c κs = (whole-record (now (c .before .before .before .before .before .args .d)) (now (c .before .before .before .before .before .args .order)) (c .before .before .loop .i) (c .before .before .before .before .before .pre .1) (omega arith), c .before .before .before .before .before .pre .2)
 
-array-write-out : tie.Need-array-write-out Inv-loop μ-loop
-array-write-out c = let h = c .before .before .before .before .before .before .pre .0 in omega arith
+element-write-out : tie.Need-element-write-out Inv-loop μ-loop
+element-write-out c = let h = c .before .before .before .before .before .before .pre .0 in omega arith
 
 add-i : tie.Need-add-i Inv-loop μ-loop
 add-i c = omega arith
@@ -54,8 +54,8 @@ returns c =
     let l = c .before .loop in
     l .inv .1 ∙ column-done (λ j. at1 (now (a .d)) (16 * j + a .k)) (now (a .order)) (l .i) (omega arith)
 
-pub bytes-of-spec : {M : Type 1} → statement M
-bytes-of-spec =
+pub store-bytes-spec : {M : Type 1} → statement M
+store-bytes-spec =
     tie.close
     (tie.spec
     Inv-loop
@@ -65,7 +65,7 @@ bytes-of-spec =
     shared-slice-read-byte-of
     cast-byte-of
     byte-of-requires
-    array-write-out
+    element-write-out
     add-i
     loop-less
     loop-again

@@ -1,7 +1,7 @@
--- `deck::columns::numbers_of` meets its contract.
+-- `deck::columns::store_numbers` meets its contract.
 -- Assumes nothing.
 use Prim.Native.Nat.{_-_, _≤_}
-use mathlib.Core.Path.{_≡_, refl, _∙_}
+use mathlib.Core.Path.{_≡_, _∙_}
 use mathlib.Core.List.{map}
 use native.Mathlib.Omega.{arith}
 use denote.Ref.{now}
@@ -9,8 +9,8 @@ use lib.ListN.{length}
 use Rattle.common.proofs.Filling.{front}
 use Rattle.deck.specs.code.Table.{numberOf}
 use Rattle.deck.proofs.Columned.{column-step, column-done, whole-record}
-use Rattle.deck.proofs.columns.numbers_of.Statement.{statement}
-use Rattle.deck.proofs.columns.numbers_of.Tie as tie
+use Rattle.deck.proofs.columns.store_numbers.Statement.{statement}
+use Rattle.deck.proofs.columns.store_numbers.Tie as tie
 
 abbrev Inv-loop : tie.InvT-loop
 Inv-loop d order out₀ i₀ out i = (i ≤ length order) × (out ≡ front (map (numberOf d) order) 4096 i)
@@ -19,7 +19,7 @@ abbrev μ-loop : tie.MeasureT-loop
 μ-loop d order out₀ i₀ out i = length order - i
 
 loop-holds : tie.Need-loop-holds Inv-loop μ-loop
-loop-holds c = (omega arith, refl)
+loop-holds c = (omega arith, c .before .before .pre .2)
 
 mul-number-of : tie.Need-mul-number-of Inv-loop μ-loop
 mul-number-of c = let h = c .before .before .before .before .pre in omega arith
@@ -36,8 +36,8 @@ number-of-requires c κs = whole-record (now (c .before .before .before .before 
 mul-out : tie.Need-mul-out Inv-loop μ-loop
 mul-out c = let h = c .before .before .before .before .before .before .pre .0 in omega arith
 
-array-write-out : tie.Need-array-write-out Inv-loop μ-loop
-array-write-out c = let h = c .before .before .before .before .before .before .pre .0 in omega arith
+element-write-out : tie.Need-element-write-out Inv-loop μ-loop
+element-write-out c = let h = c .before .before .before .before .before .before .pre .0 in omega arith
 
 add-i : tie.Need-add-i Inv-loop μ-loop
 add-i c = omega arith
@@ -57,8 +57,8 @@ returns c =
     let l = c .before .loop in
     l .inv .1 ∙ column-done (numberOf (now (a .d))) (now (a .order)) (l .i) (omega arith)
 
-pub numbers-of-spec : {M : Type 1} → statement M
-numbers-of-spec =
+pub store-numbers-spec : {M : Type 1} → statement M
+store-numbers-spec =
     tie.close
     (tie.spec
     Inv-loop
@@ -69,7 +69,7 @@ numbers-of-spec =
     cast-number-of
     number-of-requires
     mul-out
-    array-write-out
+    element-write-out
     add-i
     loop-less
     loop-again
