@@ -22,7 +22,6 @@ use Rattle.deck.specs.declared.DeckAnswer.{DeckAnswer}
 use Rattle.deck.specs.declared.DeckAnswer.the-variants.{Accepted, Refused}
 use Rattle.deck.specs.Deck.{readDeck, deckTranscripts}
 use Rattle.deck.specs.Numbers.{deckNumber, deckRecord, isAccepted}
-use Rattle.deck.specs.code.Table.{deckOf}
 use Rattle.deck.specs.claims.Numbers.{deckNumbers}
 use Rattle.deck.proofs.NumbersGiven.{deckGiven}
 use Rattle.lines.specs.Line.{calledLine}
@@ -43,10 +42,6 @@ parsedGiven l = on-test (isCall (fieldsOf l)) (λ e. rw e (refl, refl)) (λ e. r
 abbrev Judged : DeckAnswer → Type 0
 Judged a = NumberGiven deckNumbers (deckNumber a) (deckNumber a) (isAccepted a)
 
-judged : (deck : List ℕ) → Judged (readDeck deck)
-unfolding deckOf
-judged deck = deckGiven deck
-
 abbrev OpensBy : DeckAnswer → List ℕ → List ℕ → Type 0
 OpensBy a window calls =
     NumberGiven openingNumbers (orElse (deckNumber a) (refuse (badWindowFile window || badCallFile calls) 27 0))
@@ -65,7 +60,7 @@ opening-by Accepted g window calls = on-test (badWindowFile window || badCallFil
 
 pub openingGiven : OpeningGiven
 unfolding opening
-openingGiven deck window calls = opening-by (readDeck deck) (judged deck) window calls
+openingGiven deck window calls = opening-by (readDeck deck) (deckGiven deck) window calls
 
 opening-valued : (a : DeckAnswer) (window calls : List ℕ) →
     openingValues (openingBy a window calls) ≡ cond (isOpened (openingBy a window calls)) [] (deckRecord a ∷ [])
@@ -125,4 +120,4 @@ printed-by Accepted g deck window calls = on-test (badWindowFile window || badCa
 
 pub listingGiven : ListingGiven
 unfolding listing opening
-listingGiven deck window calls = printed-by (readDeck deck) (judged deck) deck window calls
+listingGiven deck window calls = printed-by (readDeck deck) (deckGiven deck) deck window calls
