@@ -1,7 +1,7 @@
--- A deck's table has the deck's transcripts, and all of them are admitted.
+-- An accepted deck's table has the deck's transcripts, and all of them are admitted.
 -- Assumes nothing.
 use Prim.Native.Nat.{ℕ, _≤_}
-use mathlib.Core.Path.{_≡_, refl, sym, _∙_}
+use mathlib.Core.Path.{_≡_, refl, sym, _∙_, ap, subst}
 use mathlib.Core.Bool.{_||_}
 use mathlib.Core.List.{List, [], _∷_}
 use native.Mathlib.Omega.{arith}
@@ -14,19 +14,19 @@ use Rattle.transcript.proofs.Asking.{admitted-is}
 use Rattle.deck.specs.declared.DeckAnswer.{DeckAnswer}
 use Rattle.deck.specs.declared.DeckAnswer.the-variants.{Accepted, Refused}
 use Rattle.deck.specs.declared.DeckTable.{DeckTable}
-use Rattle.deck.specs.declared.Deck.{Deck}
+use Rattle.deck.specs.declared.structure.Structure.{Structure}
 use Rattle.deck.specs.Walk.{walkDeck}
 use Rattle.deck.specs.Deck.{admittedThen, readDeck, deckTranscripts}
 use Rattle.deck.specs.code.Order.{orderOf}
-use Rattle.deck.specs.code.Table.{column, tableOf, emptyTable, rowsFrom, transcriptAt, transcriptRows, tableTranscripts, admitRows, tableAs, deckOf}
+use Rattle.deck.specs.code.Table.{tableOf, transcriptAt, transcriptRows, tableTranscripts, admitRows, tableBy, deckTable}
 use Rattle.deck.proofs.Accepted.{sound-deck, sound-admission, tableHolds}
 use Rattle.listing.specs.declared.Opening.{Opening}
 use Rattle.listing.specs.declared.Opening.the-variants.{Listing}
 use Rattle.listing.specs.WindowFile.{badWindowFile, badCallFile}
 use Rattle.listing.specs.Listing.{openingBy, opening}
-use Rattle.pieces.specs.declared.TableIndex.{TableIndex}
-use Rattle.pieces.specs.code.TableIndex.{Admits, AllAdmitted, tableIndex}
-use Rattle.pieces.specs.code.Opening.{opened}
+use Rattle.pieces.specs.code.TableIndex.{TableIndex}
+use Rattle.pieces.specs.code.TableIndex.{Admits, AllAdmitted}
+use Rattle.pieces.specs.code.Opening.{indexBy, opened}
 use Rattle.pieces.proofs.FilesJudged.{right-files}
 
 admits-rows : (records : List ℕ) (t : DeckTable) (ks : List ℕ) → admitRows records t ks ≡ Accepted → Admits t ks
@@ -39,19 +39,12 @@ admits-rows records t (k ∷ ks) e = here (admissionOf (transcriptAt t k)) refl 
     here Admission.Admitted q h on = (admitted-is (transcriptAt t k) (admissionOf (transcriptAt t k)) refl q, on h)
     here (Admission.Refused n) q h on = absurd (let z : _≡_ {A = ℕ} 0 1 = cc in omega arith)
 
-none-admitted : AllAdmitted emptyTable
-unfolding rowsFrom
-none-admitted = tt
-
-pub all-admitted : (d : List ℕ) → AllAdmitted (deckOf d .table)
-unfolding deckOf
-all-admitted d = here (readDeck d) refl
-  where
-    here : (a : DeckAnswer) → readDeck d ≡ a → AllAdmitted (tableAs a (tableOf d (orderOf (walkDeck d))))
-    here Accepted e =
-        let t = tableOf d (orderOf (walkDeck d)) in
-        admits-rows (column (λ i. i) (orderOf (walkDeck d))) t (transcriptRows t) (sound-admission d (sound-deck d e .1) ∙ e)
-    here (Refused n i) e = none-admitted
+pub all-admitted : (d : List ℕ) → readDeck d ≡ Accepted → AllAdmitted (deckTable d)
+unfolding deckTable
+all-admitted d e =
+    let s = sound-deck d e in
+    let t = tableOf d (orderOf (walkDeck d)) in
+    subst (λ (b : Structure). AllAdmitted (tableBy d b)) (sym (s .1)) (admits-rows (orderOf (walkDeck d)) t (transcriptRows t) (sound-admission d (s .1) ∙ e))
 
 -- a listing that is opened
 module _ (deck window calls : List ℕ) where
@@ -65,10 +58,15 @@ module _ (deck window calls : List ℕ) where
   unfolding opening
   opened-deck e = judged (readDeck deck) e
 
-  pub opened-transcripts : opening deck window calls ≡ Listing → tableTranscripts (deckOf deck .table) ≡ deckTranscripts deck
+  pub opened-transcripts : opening deck window calls ≡ Listing → tableTranscripts (deckTable deck) ≡ deckTranscripts deck
   opened-transcripts e = tableHolds deck (opened-deck e .0)
 
-  pub opened-is : {d : Deck} {o : Opening} {x : TableIndex} → d ≡ deckOf deck → o ≡ openingBy (d .answer) window calls → x ≡ tableIndex (d .table)
-      → record { opening = o; table = d .table; index = x } ≡ opened deck window calls
-  unfolding opened opening deckOf
-  opened-is e f g = rw (f, g, e)
+  pub table-admitted : {a : DeckAnswer} {v : Opening} {t : DeckTable} → a ≡ readDeck deck → v ≡ openingBy a window calls → v ≡ Listing → t ≡ deckTable deck → AllAdmitted t
+  table-admitted {a} ea ev eo et = subst AllAdmitted (sym et) (all-admitted deck (sym ea ∙ judged a (sym ev ∙ eo) .0))
+
+  pub opened-is : {a : DeckAnswer} {v o : Opening} {t : DeckTable} {x : TableIndex} → a ≡ readDeck deck → v ≡ openingBy a window calls → v ≡ o
+      → t ≡ deckTable deck → x ≡ indexBy o t → record { opening = o; table = t; index = x } ≡ opened deck window calls
+  unfolding opened opening
+  opened-is ea ev eo et ex =
+      let h = sym eo ∙ ev ∙ ap (λ (b : DeckAnswer). openingBy b window calls) ea in
+      rw (ex, h, et)

@@ -5,7 +5,7 @@ use mathlib.Core.Path.{_≡_, sym, _∙_, ap, subst}
 use mathlib.Core.List.{List, [], _∷_}
 use lib.ListN.{length}
 use Rattle.deck.specs.declared.DeckTable.{DeckTable}
-use Rattle.deck.specs.code.Table.{tableTranscripts, deckOf}
+use Rattle.deck.specs.code.Table.{tableTranscripts, deckTable}
 use Rattle.lines.specs.Line.{refusalLine}
 use Rattle.listing.specs.declared.Opening.the-variants.{Listing, Refused}
 use Rattle.listing.specs.declared.Cursor.{Cursor}
@@ -13,28 +13,30 @@ use Rattle.listing.specs.declared.Piece.{Piece}
 use Rattle.listing.specs.WindowFile.{windowOf}
 use Rattle.listing.specs.Listing.{opening}
 use Rattle.listing.specs.Pieces.{Step, stepsAt, steps, Packed, pack, pieceBy, pieceOf, pieceTo}
-use Rattle.pieces.specs.declared.Opened.{Opened}
+use Rattle.listing.specs.declared.Opening.{Opening}
 use Rattle.pieces.specs.declared.fill.Filled.{Filled}
 use Rattle.pieces.specs.code.TableIndex.{AllAdmitted, tableIndex}
-use Rattle.pieces.specs.code.Opening.{opened}
+use Rattle.pieces.specs.code.Opening.{OpenedListing, indexBy, opened}
 use Rattle.pieces.specs.code.Filling.{filledAs}
 use Rattle.pieces.proofs.Admitting.{all-admitted, opened-deck, opened-transcripts}
 
-module _ (deck window calls : List ℕ) {o : Opened} (e : o ≡ opened deck window calls) where
+module _ (deck window calls : List ℕ) {o : OpenedListing} (e : o ≡ opened deck window calls) where
   opening-is : o .opening ≡ opening deck window calls
   unfolding opened
-  opening-is = ap (λ (x : Opened). x .opening) e
+  opening-is = ap (λ (x : OpenedListing). x .opening) e
 
-  table-is : o .table ≡ deckOf deck .table
+  table-is : o .table ≡ deckTable deck
   unfolding opened
-  table-is = ap (λ (x : Opened). x .table) e
+  table-is = ap (λ (x : OpenedListing). x .table) e
 
-  index-is : o .index ≡ tableIndex (deckOf deck .table)
+  index-is : o .opening ≡ Listing → o .index ≡ tableIndex (deckTable deck)
   unfolding opened
-  index-is = ap (λ (x : Opened). x .index) e
+  index-is h = ap (λ (x : OpenedListing). x .index) e ∙ ap (λ (j : Opening). indexBy j (deckTable deck)) (sym opening-is ∙ h)
 
   pub opened-ready : o .opening ≡ Listing → AllAdmitted (o .table) × ((o .index ≡ tableIndex (o .table)) × (length calls ≤ 65_536))
-  opened-ready h = (subst AllAdmitted (sym table-is) (all-admitted deck), (index-is ∙ ap tableIndex (sym table-is), opened-deck deck window calls (sym opening-is ∙ h) .1))
+  opened-ready h =
+      let d = opened-deck deck window calls (sym opening-is ∙ h) in
+      (subst AllAdmitted (sym table-is) (all-admitted deck (d .0)), (index-is h ∙ ap tableIndex (sym table-is), d .1))
 
   pub refused-steps : {i n : ℕ} (c : Cursor) → o .opening ≡ Refused i n → steps deck window calls c ≡ record { before = c; text = refusalLine 0 i n } ∷ []
   unfolding steps

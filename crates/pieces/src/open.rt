@@ -8,7 +8,9 @@ ghost use mathlib.Core.Path.{_≡_};
 ghost use mathlib.Core.Bool.{_||_};
 ghost use Rattle.listing.specs.WindowFile.{badWindowFile, badCallFile};
 ghost use Rattle.listing.specs.Listing.{openingBy};
-ghost use Rattle.pieces.specs.code.Opening.{opened};
+ghost use Rattle.deck.specs.code.Table.{tableGiven, emptyTable};
+ghost use Rattle.pieces.specs.code.TableIndex.{indexGiven, emptyIndex};
+ghost use Rattle.pieces.specs.code.Opening.{opened, openedLeft};
 
 // 27: window file under 10 or over 65,536 bytes, call file over 65,536 bytes.
 fn bad_files(window: &[u8], calls: &[u8]) -> bool
@@ -38,24 +40,56 @@ fn judge(answer: DeckAnswer, window: &[u8], calls: &[u8]) -> Opening
     Opening::Listing
 }
 
-// What deck, window file and calls are judged to be, and what is computed once for the deck.
-pub fn open_listing(deck: &[u8], window: &[u8], calls: &[u8]) -> Opened
-    ensures { λ r. ⌜ r ≡ opened (now deck.entry) (now window.entry) (now calls.entry) ⌝ }
+// What deck, window file and calls are judged to be; the deck's table, and what is computed once for its transcripts if they are listed,
+// in columns that come as zeros.
+pub fn open_listing(
+    deck: &[u8],
+    window: &[u8],
+    calls: &[u8],
+    kinds: &mut [u8; 4096],
+    marks: &mut [u8; 4096],
+    ids: &mut [u32; 4096],
+    numbers: &mut [u16; 4096],
+    starts: &mut [u64; 4096],
+    ends: &mut [u64; 4096],
+    rows: &mut [u16; 4096],
+    short: &mut [bool; 4096],
+    exons: &mut [u16; 4096],
+    bounds: &mut [u16; 4096],
+    segments: &mut [u16; 4096],
+    bases: &mut [u16; 4096],
+    sums: &mut [u32; 4096],
+) -> Opened
+    requires { ⌜ tableGiven kinds marks ids numbers starts ends ≡ emptyTable ⌝ }
+    requires { ⌜ indexGiven 0 rows short exons bounds segments bases sums ≡ emptyIndex ⌝ }
+    ensures { λ r.
+        let o = openedLeft r kinds marks ids numbers starts ends rows short exons bounds segments bases sums in
+        ⌜ o ≡ opened (now deck.entry) (now window.entry) (now calls.entry) ⌝ }
 {
-    let read = read_deck(deck);
-    let answer = read.answer;
+    let answer = read_deck(deck, kinds, marks, ids, numbers, starts, ends);
     let opening = judge(answer, window, calls);
-    let table = read.table;
-    let kinds = table.kinds;
-    let marks = table.marks;
-    let ids = table.ids;
-    let numbers = table.numbers;
-    let starts = table.starts;
-    let ends = table.ends;
-    let index = index_table(&kinds, &marks, &ids, &numbers, &starts, &ends);
-    Opened {
-        opening,
-        table,
-        index,
+    match opening {
+        Opening::Refused { record, number } => Opened {
+            opening: Opening::Refused { record, number },
+            count: 0,
+        },
+        Opening::Listing => Opened {
+            opening: Opening::Listing,
+            count: index_table(
+                kinds,
+                marks,
+                ids,
+                numbers,
+                starts,
+                ends,
+                rows,
+                short,
+                exons,
+                bounds,
+                segments,
+                bases,
+                sums,
+            ),
+        },
     }
 }

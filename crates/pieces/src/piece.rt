@@ -2,7 +2,6 @@
 use crate::fill::Filled;
 use crate::fill::line_filled;
 use crate::line::fill_lines;
-use crate::open::open_listing;
 use lines::line::write_refusal;
 use listing::Cursor;
 use listing::Opening;
@@ -95,51 +94,4 @@ pub fn next_piece(
             out,
         )),
     }
-}
-
-// The piece of a deck's, a window file's and the calls' listing from a cursor on.
-pub fn list_piece(deck: &[u8], window: &[u8], calls: &[u8], cursor: Cursor, out: &mut [u8]) -> Piece
-    ensures { λ r.
-        let p = packed (now deck.entry) (now window.entry) (now calls.entry) cursor (now out.entry) in
-        ⌜ (r ≡ pieceOf p) × (now out.exit ≡ pieceTo (now out.entry) p) ⌝ }
-{
-    let opened = open_listing(deck, window, calls);
-    let opening = opened.opening;
-    let table = opened.table;
-    let kinds = table.kinds;
-    let marks = table.marks;
-    let ids = table.ids;
-    let numbers = table.numbers;
-    let starts = table.starts;
-    let ends = table.ends;
-    let index = opened.index;
-    let rows = index.rows;
-    let short = index.short;
-    let exons = index.exons;
-    let bounds = index.bounds;
-    let segments = index.segments;
-    let bases = index.bases;
-    let sums = index.sums;
-    next_piece(
-        deck,
-        window,
-        calls,
-        opening,
-        &kinds,
-        &marks,
-        &ids,
-        &numbers,
-        &starts,
-        &ends,
-        index.count,
-        &rows,
-        &short,
-        &exons,
-        &bounds,
-        &segments,
-        &bases,
-        &sums,
-        cursor,
-        out,
-    )
 }

@@ -7,7 +7,8 @@ use mathlib.Core.List.{List, [], _∷_, map}
 use lib.ListN.{set, replicate}
 use lib.Dec.{eqb}
 use denote.Ref.{RefT, now}
-use Rattle.common.specs.Slices.{Slice}
+use denote.Triple.Both.{Both}
+use Rattle.common.specs.Slices.{Slice, Passed}
 use Rattle.common.specs.Lists.{any}
 use Rattle.common.specs.Stored.{stored}
 use Rattle.transcript.specs.Transcript.{Transcript}
@@ -19,9 +20,18 @@ use Rattle.locate.specs.Index.{cumulative}
 use Rattle.deck.specs.declared.DeckTable.{DeckTable}
 use Rattle.deck.specs.declared.rows.Rows.{Rows}
 use Rattle.deck.specs.code.Table.{rowsAt, transcriptAt, transcriptRows}
-use Rattle.pieces.specs.declared.TableIndex.{TableIndex}
 
-abbrev Marks : Type 0
+pub record TableIndex : Type 0 where
+  pub count : ℕ
+  pub rows : List ℕ
+  pub short : List Bool
+  pub exons : List ℕ
+  pub bounds : List ℕ
+  pub segments : List ℕ
+  pub bases : List ℕ
+  pub sums : List ℕ
+
+abbrev pub Marks : Type 0
 Marks = RefT (List Bool)
 
 -- the transcripts at these rows are admitted
@@ -81,7 +91,7 @@ emptyIndex = record {
   sums = replicate 4096 0;
 }
 
--- the index whose columns are given, as a `requires` names them
+-- the index whose columns are given, as a `requires` names them, and that is left in columns lent to be filled
 abbrev pub indexGiven : ℕ → Slice → Marks → Slice → Slice → Slice → Slice → Slice → TableIndex
 indexGiven count rows short exons bounds segments bases sums = record {
   count = count;
@@ -93,6 +103,10 @@ indexGiven count rows short exons bounds segments bases sums = record {
   bases = now bases;
   sums = now sums;
 }
+
+abbrev pub indexLeft : ℕ → Passed → Both Marks Marks → Passed → Passed → Passed → Passed → Passed → TableIndex
+indexLeft count rows short exons bounds segments bases sums =
+    indexGiven count (rows .exit) (short .exit) (exons .exit) (bounds .exit) (segments .exit) (bases .exit) (sums .exit)
 
 -- the index of a table
 abbrev pub tableIndex : DeckTable → TableIndex

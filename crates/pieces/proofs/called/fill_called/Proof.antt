@@ -15,7 +15,7 @@ use Rattle.deck.specs.code.Table.{tableTranscripts}
 use Rattle.listing.specs.declared.ParsedCall.the-variants.{Read}
 use Rattle.listing.specs.Entries.{callEntries}
 use Rattle.listing.specs.Pieces.{Step, callSteps, pack}
-use Rattle.pieces.specs.declared.TableIndex.{TableIndex}
+use Rattle.pieces.specs.code.TableIndex.{TableIndex}
 use Rattle.pieces.proofs.Filling.{Filling, filling-none, filling-length, filling-low, filling-end}
 use Rattle.pieces.proofs.Entries.{steps-end, entry-put, entry-left}
 use Rattle.pieces.proofs.called.fill_called.Statement.{statement}

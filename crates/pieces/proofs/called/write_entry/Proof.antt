@@ -6,7 +6,7 @@ use native.Mathlib.Omega.{arith}
 use denote.Ref.{now}
 use Rattle.deck.specs.declared.DeckTable.{DeckTable}
 use Rattle.consequence.specs.Window.{Window}
-use Rattle.pieces.specs.declared.TableIndex.{TableIndex}
+use Rattle.pieces.specs.code.TableIndex.{TableIndex}
 use Rattle.pieces.proofs.Entries.{count-low, row-below, ready, entry-line}
 use borrow.Author.Needs.{needs}
 use Rattle.pieces.proofs.called.write_entry.Statement.{statement}

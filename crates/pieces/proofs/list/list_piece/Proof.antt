@@ -1,0 +1,20 @@
+-- `pieces::list::list_piece` meets its contract.
+-- Assumes nothing.
+use mathlib.Core.Path.{refl}
+use borrow.Author.Needs.{needs}
+use Rattle.pieces.specs.code.TableIndex.{emptyIndex}
+use Rattle.pieces.proofs.list.list_piece.Statement.{statement}
+use Rattle.pieces.proofs.list.list_piece.Tie as tie
+
+open-piece-requires : tie.Need-open-piece-requires
+unfolding emptyIndex
+open-piece-requires c κs = (refl, refl)
+
+same-length : tie.Need-same-length
+same-length c = search needs
+
+returns : tie.Need-returns
+returns c = search needs
+
+pub list-piece-spec : {M : Type 1} → statement M
+list-piece-spec = tie.close (tie.spec open-piece-requires same-length returns)
