@@ -1,10 +1,1 @@
-pub mod Nearness
-pub mod Blocks
-pub mod Leaving
-pub mod PlaceRefused
-pub mod Positions
-pub mod Answers
-pub mod CallList
-pub mod Beside
 pub mod Collecting
-pub mod Lining

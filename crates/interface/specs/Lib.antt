@@ -1,7 +1,1 @@
-pub mod Left
-pub mod Lists
-pub mod Calls
-pub mod Interval
 pub mod Decks
-pub mod Lines
-pub mod code

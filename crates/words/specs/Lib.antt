@@ -1,4 +1,5 @@
 pub mod Model
+pub mod Call
 pub mod IntervalWords
 pub mod Lengths
 pub mod code

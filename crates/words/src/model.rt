@@ -1,4 +1,5 @@
 // A transcript's scalars from what is handed in.
+use super::VareffectModel;
 use transcript::CdsBounds;
 use transcript::Strand;
 use transcript::TranscriptModel;
@@ -26,32 +27,19 @@ fn bounds_of(has_cds: bool, start: u64, end: u64) -> CdsBounds
     CdsBounds::Neither
 }
 
-pub fn model_of(
-    id: u32,
-    chromosome: u16,
-    minus: bool,
-    exon_count: u16,
-    tx_start: u64,
-    tx_end: u64,
-    has_cds: bool,
-    cds_start: u64,
-    cds_end: u64,
-    start_complete: bool,
-) -> TranscriptModel
-    ensures { λ r. ⌜ r ≡ modelOf id chromosome minus
-        «exon_count» «tx_start» «tx_end»
-        «has_cds» «cds_start» «cds_end» «start_complete» ⌝ }
+pub fn model_of(model: VareffectModel) -> TranscriptModel
+    ensures { λ r. ⌜ r ≡ modelOf model ⌝ }
 {
-    let strand = strand_of(minus);
-    let cds = bounds_of(has_cds, cds_start, cds_end);
+    let strand = strand_of(model.minus);
+    let cds = bounds_of(model.has_cds, model.cds_start, model.cds_end);
     TranscriptModel {
-        id,
-        chromosome,
+        id: model.id,
+        chromosome: model.chromosome,
         strand,
-        exon_count,
-        tx_start,
-        tx_end,
+        exon_count: model.exon_count,
+        tx_start: model.tx_start,
+        tx_end: model.tx_end,
         cds,
-        cds_start_complete: start_complete,
+        cds_start_complete: model.start_complete,
     }
 }

@@ -10,12 +10,9 @@ model-of-requires c κs = search needs
 answer-interval-requires : tie.Need-answer-interval-requires
 answer-interval-requires c κs = search needs
 
-same-length : tie.Need-same-length
-same-length c = search needs
-
 returns : tie.Need-returns
-returns c = rw (c .before .before .before .model-of .ensures) at (c .before .answer-interval .ensures)
+returns c = rw (c .before .before .model-of .ensures) at (c .answer-interval .ensures)
 
 pub vareffect-interval-spec : {M : Type 1} → statement M
 vareffect-interval-spec =
-    tie.close (tie.spec model-of-requires answer-interval-requires same-length returns)
+    tie.close (tie.spec model-of-requires answer-interval-requires returns)

@@ -10,12 +10,9 @@ model-of-requires c κs = search needs
 answer-place-requires : tie.Need-answer-place-requires
 answer-place-requires c κs = search needs
 
-same-length : tie.Need-same-length
-same-length c = search needs
-
 returns : tie.Need-returns
-returns c = rw (c .before .before .before .model-of .ensures) at (c .before .answer-place .ensures)
+returns c = rw (c .before .before .model-of .ensures) at (c .answer-place .ensures)
 
 pub vareffect-place-spec : {M : Type 1} → statement M
 vareffect-place-spec =
-    tie.close (tie.spec model-of-requires answer-place-requires same-length returns)
+    tie.close (tie.spec model-of-requires answer-place-requires returns)

@@ -1,0 +1,8 @@
+pub mod Nearness
+pub mod Blocks
+pub mod Leaving
+pub mod PlaceRefused
+pub mod Positions
+pub mod Answers
+pub mod CallList
+pub mod Beside
