@@ -1,23 +1,14 @@
--- What a deck's bytes are answered with.
-use Prim.Native.Nat.{ℕ, _+_, _*_}
-use mathlib.Core.List.{List, [], map}
-use Rattle.transcript.specs.Transcript.{Transcript}
+-- What questions about a deck are answered with.
 use Rattle.deck.specs.declared.DeckAnswer.{DeckAnswer}
-use Rattle.deck.specs.declared.DeckAnswer.the-variants.{Accepted, Refused}
 use Rattle.deck.specs.Numbers.{deckNumber, deckRecord}
-use Rattle.deck.specs.Deck.{deckTranscripts, readDeck}
+use Rattle.contents.specs.declared.Content.{Content}
+use Rattle.words.specs.declared.VareffectOutcome.{VareffectOutcome}
 
--- the number of the refusal in the lowest byte, then the record; 0 where the deck is accepted
-abbrev pub deckFault : DeckAnswer → ℕ
-deckFault a = deckNumber a + 256 * deckRecord a
+-- 0 and 0 where the deck is accepted, else the refusal and its record
+abbrev pub deckOutcome : DeckAnswer → VareffectOutcome
+deckOutcome a = record { number = deckNumber a; value = deckRecord a }
 
-abbrev pub idOf : Transcript → ℕ
-idOf t = t .model .id
-
-abbrev pub idsWhere : DeckAnswer → List Transcript → List ℕ
-idsWhere Accepted ts = map idOf ts
-idsWhere (Refused n i) ts = []
-
--- the ids of the transcripts of an accepted deck, in chain order
-abbrev pub deckIds : List ℕ → List ℕ
-deckIds d = idsWhere (readDeck d) (deckTranscripts d)
+-- 0 and how many transcripts there are, or the refusal and its record
+abbrev pub contentOutcome : Content → VareffectOutcome
+contentOutcome (Content.Held n) = record { number = 0; value = n }
+contentOutcome (Content.Refused n i) = record { number = n; value = i }

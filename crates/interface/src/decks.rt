@@ -1,78 +1,95 @@
 // Decks: whether one is accepted, and which transcripts it has.
+use contents::Content;
+use contents::deck_ids;
+use contents::deck_transcript;
 use deck::DeckAnswer;
-use deck::read_deck;
-use deck::rows::rows_at;
-ghost use Prim.Native.Nat.{_+_, _≤_, _<_, _^_};
+use deck::check_deck;
+use words::VareffectOutcome;
 ghost use mathlib.Core.Path.{_≡_};
-ghost use mathlib.Core.List.{[], _∷_, map};
-ghost use lib.ListN.{length, getD};
-ghost use Rattle.common.specs.Stored.{stored, Pushed};
+ghost use Rattle.common.specs.Stored.{stored};
 ghost use Rattle.deck.specs.Deck.{readDeck};
-ghost use Rattle.deck.specs.code.Table.{rowsFrom};
-ghost use Rattle.interface.specs.Decks.{deckFault, deckIds};
+ghost use Rattle.contents.specs.Contents.{deckContent, deckIds, placeContent, chosen, scalarsOf, exonStarts, exonEnds, segmentPhases};
+ghost use Rattle.contents.specs.Contents.{segmentExons, segmentStarts, segmentEnds, basesOf, Put};
+ghost use Rattle.interface.specs.Decks.{deckOutcome, contentOutcome};
 
-fn fault_of(answer: DeckAnswer) -> u32
-    ensures { λ r. ⌜ r ≡ deckFault answer ⌝ }
+fn deck_outcome(answer: DeckAnswer) -> VareffectOutcome
+    ensures { λ r. ⌜ r ≡ deckOutcome answer ⌝ }
 {
     match answer {
-        DeckAnswer::Accepted => 0,
-        DeckAnswer::Refused { number, record } => number as u32 + 256 * record as u32,
+        DeckAnswer::Accepted => VareffectOutcome {
+            number: 0,
+            value: 0,
+        },
+        DeckAnswer::Refused { number, record } => VareffectOutcome {
+            number: number as u64,
+            value: record as u64,
+        },
     }
 }
 
-// The number of a deck's refusal and 256 times the record at fault; 0 where the deck is accepted.
+fn content_outcome(content: Content) -> VareffectOutcome
+    ensures { λ r. ⌜ r ≡ contentOutcome content ⌝ }
+{
+    match content {
+        Content::Held(n) => VareffectOutcome {
+            number: 0,
+            value: n as u64,
+        },
+        Content::Refused { number, record } => VareffectOutcome {
+            number: number as u64,
+            value: record as u64,
+        },
+    }
+}
+
+// The number of a deck's refusal and the record at fault; 0 and 0 where the deck is accepted.
 #[no_mangle]
-pub extern "C" fn vareffect_check_deck(bytes: &[u8]) -> u32
-    ensures { λ r. ⌜ r ≡ deckFault (readDeck (now bytes.entry)) ⌝ }
+pub extern "C" fn vareffect_check_deck(bytes: &[u8]) -> VareffectOutcome
+    ensures { λ r. ⌜ r ≡ deckOutcome (readDeck (now bytes.entry)) ⌝ }
 {
-    let read = read_deck(bytes);
-    let answer = read.answer;
-    fault_of(answer)
+    deck_outcome(check_deck(bytes))
 }
 
-// One id, where the buffer reaches so far. The position behind it.
-fn push_id(ids: &mut [u32], at: usize, id: u32) -> usize
-    requires { ⌜ at + 1 < 2 ^ 64 ⌝ }
-    ensures { λ r. ⌜ Pushed (now ids.entry) at (id ∷ []) (now ids.exit) r ⌝ }
-{
-    if at < ids.len() {
-        ids[at] = id;
-    }
-    at + 1
-}
-
-// The ids of the transcripts of a table.
-fn push_ids(kinds: &[u8; 4096], numbers: &[u32; 4096], ids: &mut [u32]) -> usize
-    ensures { λ r.
-        let rows = rowsFrom 4096 (now kinds.entry) 0 in
-        ⌜ Pushed (now ids.entry) 0 (map (λ k. getD (now numbers.entry) k 0) rows) (now ids.exit) r × (r ≤ 4096) ⌝ }
-{
-    let mut n = 0;
-    let mut k = 0;
-    while k < 4096 {
-        if kinds[k] != 1 {
-            return n;
-        }
-        n = push_id(ids, n, numbers[k]);
-        let rows = rows_at(kinds, k);
-        k = rows.bases;
-    }
-    n
-}
-
-// How many transcripts an accepted deck has, 0 of a refused one. Their ids are stored at the front of `ids` as far as it reaches.
+// How many transcripts the deck has. Their ids are stored at the front of `ids` as far as it reaches.
 #[no_mangle]
-pub extern "C" fn vareffect_deck_ids(bytes: &[u8], ids: &mut [u32]) -> u32
-    ensures { λ r. ⌜ r ≡ length (deckIds (now bytes.entry)) ⌝ }
+pub extern "C" fn vareffect_deck_ids(bytes: &[u8], ids: &mut [u32]) -> VareffectOutcome
+    ensures { λ r. ⌜ r ≡ contentOutcome (deckContent (now bytes.entry)) ⌝ }
     ensures { λ _. ⌜ now ids.exit ≡ stored (now ids.entry) 0 (deckIds (now bytes.entry)) ⌝ }
 {
-    let read = read_deck(bytes);
-    let answer = read.answer;
-    let DeckAnswer::Accepted = answer else {
-        return 0;
-    };
-    let table = read.table;
-    let kinds = table.kinds;
-    let numbers = table.ids;
-    push_ids(&kinds, &numbers, ids) as u32
+    content_outcome(deck_ids(bytes, ids))
+}
+
+// The transcript at a place in chain order, and how many the deck has; 25 where none stands there. Its scalars and lists are stored
+// at the front of those lent, whose rest stays.
+#[no_mangle]
+pub extern "C" fn vareffect_deck_transcript(
+    bytes: &[u8],
+    place: usize,
+    scalars: &mut [u64; 12],
+    exon_starts: &mut [u64; 512],
+    exon_ends: &mut [u64; 512],
+    seg_phases: &mut [u8; 512],
+    seg_exons: &mut [u16; 512],
+    seg_starts: &mut [u64; 512],
+    seg_ends: &mut [u64; 512],
+    selenocysteine: &mut [u64; 64],
+) -> VareffectOutcome
+    ensures { λ r. ⌜ r ≡ contentOutcome (placeContent (now bytes.entry) place) ⌝ }
+    ensures { λ _.
+        let t = chosen (now bytes.entry) place in
+        ⌜ Put t scalarsOf scalars × Put t exonStarts «exon_starts» × Put t exonEnds «exon_ends» × Put t segmentPhases «seg_phases»
+        × Put t segmentExons «seg_exons» × Put t segmentStarts «seg_starts» × Put t segmentEnds «seg_ends» × Put t basesOf selenocysteine ⌝ }
+{
+    content_outcome(deck_transcript(
+        bytes,
+        place,
+        scalars,
+        exon_starts,
+        exon_ends,
+        seg_phases,
+        seg_exons,
+        seg_starts,
+        seg_ends,
+        selenocysteine,
+    ))
 }

@@ -1,21 +1,19 @@
 -- `interface::decks::vareffect_check_deck` meets its contract.
 -- Assumes nothing.
 use mathlib.Core.Path.{_∙_, ap}
-use denote.Ref.{now}
-use Rattle.interface.specs.Decks.{deckFault}
-use Rattle.interface.proofs.Collecting.{answer-is}
+use Rattle.interface.specs.Decks.{deckOutcome}
 use borrow.Author.Needs.{needs}
 use Rattle.interface.proofs.decks.vareffect_check_deck.Statement.{statement}
 use Rattle.interface.proofs.decks.vareffect_check_deck.Tie as tie
 
-read-deck-requires : tie.Need-read-deck-requires
-read-deck-requires c κs = search needs
+check-deck-requires : tie.Need-check-deck-requires
+check-deck-requires c κs = search needs
 
-fault-of-requires : tie.Need-fault-of-requires
-fault-of-requires c κs = search needs
+deck-outcome-requires : tie.Need-deck-outcome-requires
+deck-outcome-requires c κs = search needs
 
 returns : tie.Need-returns
-returns c = c .fault-of .ensures ∙ ap deckFault (answer-is (now (c .before .before .before .args .bytes)) (c .before .read-deck .ensures))
+returns c = c .deck-outcome .ensures ∙ ap deckOutcome (c .before .check-deck .ensures)
 
 pub vareffect-check-deck-spec : {M : Type 1} → statement M
-vareffect-check-deck-spec = tie.close (tie.spec read-deck-requires fault-of-requires returns)
+vareffect-check-deck-spec = tie.close (tie.spec check-deck-requires deck-outcome-requires returns)
