@@ -92,10 +92,10 @@ shared-slice-read-t31 : tie.Need-shared-slice-read-t31 Inv-loop μ-loop
 shared-slice-read-t31 c = omega arith
 
 shared-slice-read-t33 : tie.Need-shared-slice-read-t33 Inv-loop μ-loop
-shared-slice-read-t33 c = let e = even (c .before .before .before .before .before .before .before .before .before .before .before .before .before .before .before .before .before .before .before) .refs in omega arith
+shared-slice-read-t33 c = let e = even (c .before .before .before .before .before .before .before .before .before .before .before .before .before .before .before .before .before .before .before) in omega arith
 
 shared-slice-read-t35 : tie.Need-shared-slice-read-t35 Inv-loop μ-loop
-shared-slice-read-t35 c = let e = even (c .before .before .before .before .before .before .before .before .before .before .before .before .before .before .before .before .before .before .before .before) .alts in omega arith
+shared-slice-read-t35 c = let e = even (c .before .before .before .before .before .before .before .before .before .before .before .before .before .before .before .before .before .before .before .before) in omega arith
 
 annotate-admitted-requires : tie.Need-annotate-admitted-requires Inv-loop μ-loop
 annotate-admitted-requires c κs = c .before .before .before .before .before .before .before .before .before .before .before .before .before .before .before .before .before .before .before .before .pre .0
