@@ -3,6 +3,6 @@ pub mod Blocks
 pub mod Leaving
 pub mod PlaceRefused
 pub mod Positions
-pub mod Answers
+pub mod CallRefused
 pub mod CallList
 pub mod Beside

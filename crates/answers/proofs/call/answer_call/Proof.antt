@@ -16,7 +16,7 @@ use Rattle.words.proofs.WordLengths.{called-length}
 use Rattle.words.specs.code.Near.{NearCalled}
 use Rattle.words.proofs.Capping.{called-fits}
 use Rattle.answers.proofs.Leaving.{refused, answered}
-use Rattle.answers.proofs.Answers.{near-called, called-some}
+use Rattle.answers.proofs.CallRefused.{near-called, called-some}
 use borrow.Author.Needs.{needs}
 use Rattle.answers.proofs.call.answer_call.Statement.{statement}
 use Rattle.answers.proofs.call.answer_call.Tie as tie

@@ -19,7 +19,7 @@ use Rattle.answers.specs.Calls.{snv, callsOf, callWords}
 use Rattle.words.specs.code.Near.{NearCalled}
 use Rattle.words.proofs.Capping.{called-fits}
 use Rattle.answers.proofs.Blocks.{filledTo, filled-none, filled-length, filled-more, filled-all}
-use Rattle.answers.proofs.Answers.{near-called}
+use Rattle.answers.proofs.CallRefused.{near-called}
 use Rattle.answers.proofs.CallList.{Even, fit-even, fit-room, calls-length, call-at}
 use Rattle.answers.proofs.calls.put_calls.Statement.{statement}
 use Rattle.answers.proofs.calls.put_calls.Tie as tie

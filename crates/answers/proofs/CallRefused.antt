@@ -1,4 +1,4 @@
--- The answer to a call: the number of a refusal, and a place that is near.
+-- A call: the number of a refusal, and a place that is near.
 -- Assumes nothing.
 use Prim.Native.Nat.{ℕ, _<_, _^_}
 use mathlib.Core.Path.{_≡_, refl}
