@@ -8,7 +8,6 @@ use native.Mathlib.Omega.{arith}
 use lib.ListN.{length, getD}
 use Rattle.common.proofs.TestParts.{on-test}
 use Rattle.transcript.specs.declared.Admission.{Admission}
-use Rattle.transcript.specs.Transcript.{Transcript}
 use Rattle.transcript.specs.Admission.{admissionOf}
 use Rattle.transcript.proofs.Asking.{admitted-is}
 use Rattle.deck.specs.declared.DeckAnswer.{DeckAnswer}
@@ -24,8 +23,7 @@ use Rattle.listing.specs.declared.Opening.{Opening}
 use Rattle.listing.specs.declared.Opening.the-variants.{Listing}
 use Rattle.listing.specs.WindowFile.{badWindowFile, badCallFile}
 use Rattle.listing.specs.Listing.{openingBy, opening}
-use Rattle.pieces.specs.code.TableIndex.{TableIndex}
-use Rattle.pieces.specs.code.TableIndex.{Admits, AllAdmitted}
+use Rattle.pieces.specs.code.TableIndex.{TableIndex, Admits, AllAdmitted}
 use Rattle.pieces.specs.code.Opening.{indexBy, opened}
 use Rattle.pieces.proofs.FilesJudged.{right-files}
 

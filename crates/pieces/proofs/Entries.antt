@@ -23,9 +23,8 @@ use Rattle.listing.specs.declared.Rest.the-variants.{From}
 use Rattle.listing.specs.declared.ParsedCall.the-variants.{Read}
 use Rattle.listing.specs.Entries.{Entry, entryLine, listedCall, callEntry, callEntries}
 use Rattle.listing.specs.Pieces.{Step, callSteps, Packed, pack, pieceTo}
-use Rattle.pieces.specs.code.TableIndex.{TableIndex}
 use Rattle.pieces.specs.declared.fill.Filled.{Filled}
-use Rattle.pieces.specs.code.TableIndex.{AllAdmitted, tableIndex, cdsRow}
+use Rattle.pieces.specs.code.TableIndex.{TableIndex, AllAdmitted, tableIndex, cdsRow}
 use Rattle.pieces.specs.code.Filling.{filledAs}
 use Rattle.pieces.proofs.IndexTable.{rowsIn, IndexedAt}
 use Rattle.pieces.proofs.WholeIndex.{table-indexed}

@@ -17,8 +17,7 @@ use Rattle.consequence.specs.code.Prepared.{Summed}
 use Rattle.deck.specs.declared.DeckTable.{DeckTable}
 use Rattle.deck.specs.declared.rows.Rows.{Rows}
 use Rattle.deck.specs.code.Table.{rowsAt, InOrder, transcriptIn, transcriptAt}
-use Rattle.pieces.specs.code.TableIndex.{TableIndex}
-use Rattle.pieces.specs.code.TableIndex.{isShort, rowSums, indexRow, cdsRow}
+use Rattle.pieces.specs.code.TableIndex.{TableIndex, isShort, rowSums, indexRow, cdsRow}
 use Rattle.pieces.proofs.IndexSums.{KeptBelow, kept-row, sums-kept, first-kept}
 use Rattle.pieces.proofs.SummedRows.{summed-here}
 use Rattle.pieces.proofs.IndexRows.{exons-end, segments-end, cds-row-is, cds-end}

@@ -4,16 +4,15 @@ use Prim.Native.Nat.{ℕ, _≤_}
 use mathlib.Core.Path.{_≡_, sym, _∙_, ap, subst}
 use mathlib.Core.List.{List, [], _∷_}
 use lib.ListN.{length}
-use Rattle.deck.specs.declared.DeckTable.{DeckTable}
 use Rattle.deck.specs.code.Table.{tableTranscripts, deckTable}
 use Rattle.lines.specs.Line.{refusalLine}
+use Rattle.listing.specs.declared.Opening.{Opening}
 use Rattle.listing.specs.declared.Opening.the-variants.{Listing, Refused}
 use Rattle.listing.specs.declared.Cursor.{Cursor}
 use Rattle.listing.specs.declared.Piece.{Piece}
 use Rattle.listing.specs.WindowFile.{windowOf}
 use Rattle.listing.specs.Listing.{opening}
-use Rattle.listing.specs.Pieces.{Step, stepsAt, steps, Packed, pack, pieceBy, pieceOf, pieceTo}
-use Rattle.listing.specs.declared.Opening.{Opening}
+use Rattle.listing.specs.Pieces.{Step, stepsAt, steps, pack, pieceBy, pieceOf, pieceTo}
 use Rattle.pieces.specs.declared.fill.Filled.{Filled}
 use Rattle.pieces.specs.code.TableIndex.{AllAdmitted, tableIndex}
 use Rattle.pieces.specs.code.Opening.{OpenedListing, indexBy, opened}

@@ -15,8 +15,7 @@ use Rattle.deck.specs.declared.DeckTable.{DeckTable}
 use Rattle.deck.specs.declared.rows.Rows.{Rows}
 use Rattle.deck.specs.code.Table.{isKind, rowsAt, rowsFrom, transcriptIn, transcriptAt}
 use Rattle.deck.proofs.RowOrder.{rowsOn, rows-here, rows-none, row-inside, rows-past}
-use Rattle.pieces.specs.code.TableIndex.{TableIndex}
-use Rattle.pieces.specs.code.TableIndex.{Admits, AllAdmitted, isShort, rowSums, indexRow, indexRows, emptyIndex, tableIndex}
+use Rattle.pieces.specs.code.TableIndex.{TableIndex, Admits, AllAdmitted, isShort, rowSums, indexRow, indexRows, emptyIndex, tableIndex}
 use Rattle.pieces.proofs.IndexTable.{rowsIn, IndexedAt, Indexing, indexing-more}
 
 -- a transcript stands at row k

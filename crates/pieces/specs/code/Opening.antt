@@ -29,14 +29,16 @@ opened deck window calls = record {
 }
 
 -- the opened listing whose parts are given, as a `requires` names them, and that is left in columns lent to be filled
-abbrev pub openedGiven : Opening → Slice → Slice → Slice → Slice → Slice → Slice → ℕ → Slice → Marks → Slice → Slice → Slice → Slice → Slice → OpenedListing
+abbrev pub openedGiven : Opening → Slice → Slice → Slice → Slice → Slice → Slice
+    → ℕ → Slice → Marks → Slice → Slice → Slice → Slice → Slice → OpenedListing
 openedGiven judged kinds marks ids numbers starts ends count rows short exons bounds segments bases sums = record {
   opening = judged;
   table = tableGiven kinds marks ids numbers starts ends;
   index = indexGiven count rows short exons bounds segments bases sums;
 }
 
-abbrev pub openedLeft : Opened → Passed → Passed → Passed → Passed → Passed → Passed → Passed → Both Marks Marks → Passed → Passed → Passed → Passed → Passed → OpenedListing
+abbrev pub openedLeft : Opened → Passed → Passed → Passed → Passed → Passed → Passed
+    → Passed → Both Marks Marks → Passed → Passed → Passed → Passed → Passed → OpenedListing
 openedLeft o kinds marks ids numbers starts ends rows short exons bounds segments bases sums = record {
   opening = o .opening;
   table = tableLeft kinds marks ids numbers starts ends;

@@ -1,6 +1,5 @@
 -- `lister::printing::print_pieces` meets its contract.
 -- Assumes nothing.
-use Prim.Native.Nat.{ℕ, _<_}
 use mathlib.Core.Path.{_≡_, sym}
 use native.Mathlib.Omega.{arith}
 use denote.Ref.{now}

@@ -1,7 +1,7 @@
 -- `pieces::index::index_table` meets its contract.
 -- Assumes nothing.
 use Prim.Native.Nat.{ℕ, _-_, _≤_, _<_, min}
-use mathlib.Core.Path.{_≡_, refl, sym, _∙_, ap}
+use mathlib.Core.Path.{_≡_, sym, _∙_, ap}
 use native.Mathlib.Omega.{arith}
 use denote.Ref.{now}
 use lib.ListN.{length, length-replicate}
@@ -39,7 +39,7 @@ low c = row-inside (now (c .before .before .before .args .kinds)) 1 (c .before .
 few : (c : tie.Then1 Inv-loop μ-loop) → c .before .before .loop .count < 4096
 few c = let l = low c in let i = c .before .before .loop .inv .1 in omega arith
 
--- the rows of that transcript, and that it is admitted
+-- the rows of that transcript, in their order
 at : (c : tie.After-rows-at Inv-loop μ-loop) → (c .rows-at .result ≡ rowsAt (now (c .before .before .before .before .args .kinds)) (c .before .before .before .loop .row)) × InOrder (c .before .before .before .loop .row) (c .rows-at .result)
 at c =
     let k = c .before .before .before .loop .row in
