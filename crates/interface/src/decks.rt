@@ -12,6 +12,15 @@ ghost use Rattle.contents.specs.Contents.{deckContent, deckIds, placeContent, c
 ghost use Rattle.contents.specs.Contents.{segmentExons, segmentStarts, segmentEnds, basesOf, Put};
 ghost use Rattle.interface.specs.Decks.{deckOutcome, contentOutcome};
 
+fn refused(number: u8, record: u16) -> VareffectOutcome
+    ensures { λ r. ⌜ r ≡ record { number = number; value = «record» } ⌝ }
+{
+    VareffectOutcome {
+        number: number as u64,
+        value: record as u64,
+    }
+}
+
 fn deck_outcome(answer: DeckAnswer) -> VareffectOutcome
     ensures { λ r. ⌜ r ≡ deckOutcome answer ⌝ }
 {
@@ -20,10 +29,7 @@ fn deck_outcome(answer: DeckAnswer) -> VareffectOutcome
             number: 0,
             value: 0,
         },
-        DeckAnswer::Refused { number, record } => VareffectOutcome {
-            number: number as u64,
-            value: record as u64,
-        },
+        DeckAnswer::Refused { number, record } => refused(number, record),
     }
 }
 
@@ -35,10 +41,7 @@ fn content_outcome(content: Content) -> VareffectOutcome
             number: 0,
             value: n as u64,
         },
-        Content::Refused { number, record } => VareffectOutcome {
-            number: number as u64,
-            value: record as u64,
-        },
+        Content::Refused { number, record } => refused(number, record),
     }
 }
 
