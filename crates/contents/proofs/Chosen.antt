@@ -11,13 +11,12 @@ use Rattle.common.specs.Lists.{concat}
 use Rattle.common.specs.Stored.{stored}
 use Rattle.transcript.specs.Transcript.{Transcript}
 use Rattle.deck.specs.declared.DeckAnswer.the-variants.{Accepted, Refused}
-use Rattle.deck.specs.declared.DeckTable.{DeckTable}
 use Rattle.deck.specs.declared.rows.Rows.{Rows}
 use Rattle.deck.specs.Records.{markOf, word}
 use Rattle.deck.specs.Walk.{walkDeck}
 use Rattle.deck.specs.Deck.{readDeck, deckTranscripts}
 use Rattle.deck.specs.code.Order.{orderOf}
-use Rattle.deck.specs.code.Table.{column, numberOf, rowsAt, transcriptRows, transcriptIn, transcriptAt, tableTranscripts, tableOf, deckTable}
+use Rattle.deck.specs.code.Table.{DeckTable, column, numberOf, rowsAt, transcriptRows, transcriptIn, transcriptAt, tableTranscripts, tableOf, deckTable}
 use Rattle.deck.proofs.Accepted.{few-rows, sound-deck, tableHolds}
 use Rattle.contents.specs.declared.Content.{Content}
 use Rattle.contents.specs.Contents.{placed, placeContent, chosen}

@@ -8,10 +8,9 @@ use lib.ListN.{length, getD, length-map}
 use Rattle.common.specs.Stored.{Pushed}
 use Rattle.common.proofs.Stored.{pushed-none, pushed-on}
 use Rattle.deck.specs.declared.DeckAnswer.the-variants.{Accepted, Refused}
-use Rattle.deck.specs.declared.DeckTable.{DeckTable}
 use Rattle.deck.specs.declared.rows.Rows.{Rows}
 use Rattle.deck.specs.Deck.{readDeck, deckTranscripts}
-use Rattle.deck.specs.code.Table.{rowsAt, rowsFrom, modelIn, transcriptIn, transcriptAt, deckTable}
+use Rattle.deck.specs.code.Table.{DeckTable, rowsAt, rowsFrom, modelIn, transcriptIn, transcriptAt, deckTable}
 use Rattle.deck.proofs.RowOrder.{rowsOn, rows-here, rows-none, rows-past}
 use Rattle.deck.proofs.Accepted.{tableHolds}
 use Rattle.contents.specs.declared.Content.{Content}

@@ -10,7 +10,6 @@ use lib.Dec.{eqb, ltb}
 use borrow.Author.Tests.{eqb-true, eqb-false, ltb-false}
 use Rattle.deck.specs.declared.DeckAnswer.{DeckAnswer}
 use Rattle.deck.specs.declared.DeckAnswer.the-variants.{Accepted, Refused}
-use Rattle.deck.specs.declared.DeckTable.{DeckTable}
 use Rattle.deck.specs.declared.structure.Structure.{Structure}
 use Rattle.common.specs.Little.{at1}
 use Rattle.common.specs.Stored.{filled}
@@ -18,7 +17,7 @@ use Rattle.deck.specs.Records.{recordCount, kindOf, word}
 use Rattle.deck.specs.Walk.{walkDeck}
 use Rattle.deck.specs.code.Order.{orderOf}
 use Rattle.deck.specs.Deck.{badLength, structureOf, partsOf, admitted, readDeck, deckTranscripts}
-use Rattle.deck.specs.code.Table.{column, numberOf, tableOf, emptyTable, tableTranscripts, admitTable, deckTable}
+use Rattle.deck.specs.code.Table.{DeckTable, column, numberOf, tableOf, emptyTable, tableTranscripts, admitTable, deckTable}
 use Rattle.deck.specs.claims.Transcripts.{TableHolds}
 use Rattle.deck.proofs.Grown.{walk-order}
 use Rattle.deck.proofs.Distinct.{walk-few}

@@ -13,10 +13,9 @@ use Rattle.transcript.specs.declared.Admission.{Admission}
 use Rattle.transcript.specs.declared.Admission.the-variants.{Admitted}
 use Rattle.transcript.specs.Admission.{admissionOf}
 use Rattle.deck.specs.declared.DeckAnswer.the-variants.{Accepted, Refused}
-use Rattle.deck.specs.declared.DeckTable.{DeckTable}
 use Rattle.deck.specs.declared.rows.Rows.{Rows}
 use Rattle.deck.specs.Records.{lowest}
-use Rattle.deck.specs.code.Table.{isKind, runEnd, boundsEnd, rowsAt, InOrder, rowsFrom, transcriptIn, admitRows}
+use Rattle.deck.specs.code.Table.{DeckTable, isKind, runEnd, boundsEnd, rowsAt, InOrder, rowsFrom, transcriptIn, admitRows}
 
 lowest-within : (f : ℕ → Bool) (n i : ℕ) → (i ≤ lowest f n i) × (lowest f n i ≤ n + i)
 unfolding lowest

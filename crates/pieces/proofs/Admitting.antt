@@ -12,12 +12,11 @@ use Rattle.transcript.specs.Admission.{admissionOf}
 use Rattle.transcript.proofs.Asking.{admitted-is}
 use Rattle.deck.specs.declared.DeckAnswer.{DeckAnswer}
 use Rattle.deck.specs.declared.DeckAnswer.the-variants.{Accepted, Refused}
-use Rattle.deck.specs.declared.DeckTable.{DeckTable}
 use Rattle.deck.specs.declared.structure.Structure.{Structure}
 use Rattle.deck.specs.Walk.{walkDeck}
 use Rattle.deck.specs.Deck.{admittedThen, readDeck, deckTranscripts}
 use Rattle.deck.specs.code.Order.{orderOf}
-use Rattle.deck.specs.code.Table.{tableOf, transcriptAt, transcriptRows, tableTranscripts, admitRows, tableBy, deckTable}
+use Rattle.deck.specs.code.Table.{DeckTable, tableOf, transcriptAt, transcriptRows, tableTranscripts, admitRows, tableBy, deckTable}
 use Rattle.deck.proofs.Accepted.{sound-deck, sound-admission, tableHolds}
 use Rattle.listing.specs.declared.Opening.{Opening}
 use Rattle.listing.specs.declared.Opening.the-variants.{Listing}

@@ -13,9 +13,8 @@ use Rattle.consequence.specs.declared.Call.{Call}
 use Rattle.consequence.specs.declared.Called.{Called}
 use Rattle.consequence.specs.Window.{Window}
 use Rattle.consequence.specs.code.Prepared.{Summed}
-use Rattle.deck.specs.declared.DeckTable.{DeckTable}
 use Rattle.deck.specs.declared.rows.Rows.{Rows}
-use Rattle.deck.specs.code.Table.{InOrder, modelIn, transcriptIn, transcriptAt, transcriptRows, tableTranscripts}
+use Rattle.deck.specs.code.Table.{DeckTable, InOrder, modelIn, transcriptIn, transcriptAt, transcriptRows, tableTranscripts}
 use Rattle.lines.specs.declared.Written.{Written}
 use Rattle.lines.specs.Line.{calledLine, writeAnswer, writtenTo}
 use Rattle.listing.specs.declared.Cursor.{Cursor}

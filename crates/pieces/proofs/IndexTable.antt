@@ -14,9 +14,8 @@ use Rattle.transcript.specs.Transcript.{Transcript}
 use Rattle.transcript.specs.Orient.{oriented}
 use Rattle.transcript.specs.Admission.{admission}
 use Rattle.consequence.specs.code.Prepared.{Summed}
-use Rattle.deck.specs.declared.DeckTable.{DeckTable}
 use Rattle.deck.specs.declared.rows.Rows.{Rows}
-use Rattle.deck.specs.code.Table.{rowsAt, InOrder, transcriptIn, transcriptAt}
+use Rattle.deck.specs.code.Table.{DeckTable, rowsAt, InOrder, transcriptIn, transcriptAt}
 use Rattle.pieces.specs.code.TableIndex.{TableIndex, isShort, rowSums, indexRow, cdsRow}
 use Rattle.pieces.proofs.IndexSums.{KeptBelow, kept-row, sums-kept, first-kept}
 use Rattle.pieces.proofs.SummedRows.{summed-here}

@@ -7,8 +7,7 @@ use mathlib.Core.List.{List, [], _∷_}
 use native.Mathlib.Omega.{arith}
 use lib.ListN.{length, getD, set, length-set, length-replicate}
 use lib.Seq.{getD-set-same, getD-set-other}
-use Rattle.deck.specs.declared.DeckTable.{DeckTable}
-use Rattle.deck.specs.code.Table.{isKind, rowsAt, rowsFrom, transcriptRows}
+use Rattle.deck.specs.code.Table.{DeckTable, isKind, rowsAt, rowsFrom, transcriptRows}
 use Rattle.pieces.specs.code.TableIndex.{TableIndex, indexRow, indexRows, emptyIndex, tableIndex}
 
 rows-few : (n : ℕ) (kinds : List ℕ) (k : ℕ) → length (rowsFrom n kinds k) ≤ n

@@ -11,9 +11,8 @@ use lib.Dec.{eqb, ltb}
 use borrow.Author.Tests.{eqb-true, eq-eqb, lt-ltb}
 use Rattle.common.proofs.TestParts.{on-test, and-true, true-false}
 use Rattle.transcript.specs.Admission.{admission}
-use Rattle.deck.specs.declared.DeckTable.{DeckTable}
 use Rattle.deck.specs.declared.rows.Rows.{Rows}
-use Rattle.deck.specs.code.Table.{isKind, rowsAt, rowsFrom, transcriptIn, transcriptAt}
+use Rattle.deck.specs.code.Table.{DeckTable, isKind, rowsAt, rowsFrom, transcriptIn, transcriptAt}
 use Rattle.deck.proofs.RowOrder.{rowsOn, rows-here, rows-none, row-inside, rows-past}
 use Rattle.pieces.specs.code.TableIndex.{TableIndex, Admits, AllAdmitted, isShort, rowSums, indexRow, indexRows, emptyIndex, tableIndex}
 use Rattle.pieces.proofs.IndexTable.{rowsIn, IndexedAt, Indexing, indexing-more}

@@ -16,13 +16,22 @@ use Rattle.transcript.specs.Transcript.{Transcript, exonsOf, lent}
 use Rattle.transcript.specs.Admission.{admissionOf}
 use Rattle.deck.specs.declared.DeckAnswer.{DeckAnswer}
 use Rattle.deck.specs.declared.DeckAnswer.the-variants.{Accepted, Refused}
-use Rattle.deck.specs.declared.DeckTable.{DeckTable}
 use Rattle.deck.specs.declared.structure.Structure.{Structure}
 use Rattle.deck.specs.declared.rows.Rows.{Rows}
 use Rattle.deck.specs.Records.{lowest, kindOf, markOf, half, word, transcriptKind, boundsKind, exonKind, segmentKind, selenocysteineKind}
 use Rattle.deck.specs.Walk.{walkDeck}
 use Rattle.deck.specs.code.Order.{orderOf}
 use Rattle.deck.specs.Deck.{strandOf, startComplete, txBounds, admittedThen, structureOf}
+
+-- kind, mark, bytes 4..8 (an id, or a start), bytes 8..12 (an end), and a number (a transcript's chromosome, a segment's exon index);
+-- behind the last record zeros
+pub record DeckTable : Type 0 where
+  pub kinds : List ℕ
+  pub marks : List ℕ
+  pub ids : List ℕ
+  pub numbers : List ℕ
+  pub starts : List ℕ
+  pub ends : List ℕ
 
 -- the table whose columns are given, as a `requires` names them, and that was given, as an `ensures` does
 abbrev pub tableGiven : Slice → Slice → Slice → Slice → Slice → Slice → DeckTable

@@ -3,8 +3,7 @@ use Prim.Native.Nat.{ℕ}
 use mathlib.Core.List.{List}
 use denote.Triple.Both.{Both}
 use Rattle.common.specs.Slices.{Slice, Passed}
-use Rattle.deck.specs.declared.DeckTable.{DeckTable}
-use Rattle.deck.specs.code.Table.{tableGiven, tableLeft, deckTable}
+use Rattle.deck.specs.code.Table.{DeckTable, tableGiven, tableLeft, deckTable}
 use Rattle.listing.specs.declared.Opening.{Opening}
 use Rattle.listing.specs.declared.Opening.the-variants.{Listing, Refused}
 use Rattle.listing.specs.Listing.{opening}

@@ -17,9 +17,8 @@ use Rattle.transcript.specs.Bases.{size, gaps}
 use Rattle.transcript.specs.Admission.{admission}
 use Rattle.footprint.specs.ShortIntron.{isFrameshiftGap}
 use Rattle.locate.specs.Index.{cumulative}
-use Rattle.deck.specs.declared.DeckTable.{DeckTable}
 use Rattle.deck.specs.declared.rows.Rows.{Rows}
-use Rattle.deck.specs.code.Table.{rowsAt, transcriptAt, transcriptRows}
+use Rattle.deck.specs.code.Table.{DeckTable, rowsAt, transcriptAt, transcriptRows}
 
 pub record TableIndex : Type 0 where
   pub count : ℕ

@@ -2,8 +2,7 @@
 -- Assumes nothing.
 use denote.Ref.{now}
 use lib.ListN.{take, drop}
-use Rattle.deck.specs.declared.DeckTable.{DeckTable}
-use Rattle.deck.specs.code.Table.{tableTranscripts}
+use Rattle.deck.specs.code.Table.{DeckTable, tableTranscripts}
 use Rattle.contents.specs.Contents.{scalarsOf, exonStarts, exonEnds, segmentPhases, segmentExons, segmentStarts, segmentEnds, basesOf}
 use Rattle.contents.proofs.Chosen.{put-none, put-same, none-placed, none-there, one-placed, one-there}
 use borrow.Author.Needs.{needs}

@@ -5,8 +5,7 @@ use mathlib.Core.Path.{_≡_, refl, sym, _∙_}
 use native.Mathlib.Omega.{arith}
 use denote.Ref.{now}
 use borrow.Author.Needs.{needs}
-use Rattle.deck.specs.declared.DeckTable.{DeckTable}
-use Rattle.deck.specs.code.Table.{rowsFrom, admitRows}
+use Rattle.deck.specs.code.Table.{DeckTable, rowsFrom, admitRows}
 use Rattle.deck.proofs.RowOrder.{rowsOn, rows-inside, rows-ordered, admit-on, admit-stop, admit-none}
 use Rattle.deck.proofs.admitting.admit_rows.Statement.{statement}
 use Rattle.deck.proofs.admitting.admit_rows.Tie as tie

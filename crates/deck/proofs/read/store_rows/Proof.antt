@@ -3,7 +3,7 @@
 use mathlib.Core.Path.{ap}
 use native.Mathlib.Omega.{arith}
 use denote.Ref.{now}
-use Rattle.deck.specs.declared.DeckTable.{DeckTable}
+use Rattle.deck.specs.code.Table.{DeckTable}
 use Rattle.deck.proofs.Accepted.{tabled}
 use Rattle.deck.proofs.read.store_rows.Statement.{statement}
 use Rattle.deck.proofs.read.store_rows.Tie as tie

@@ -10,8 +10,7 @@ use borrow.Author.Needs.{needs}
 use borrow.Rule.Slice.PartMut.{same-len-mid}
 use Rattle.consequence.specs.declared.Call.{Call}
 use Rattle.consequence.specs.Window.{Window}
-use Rattle.deck.specs.declared.DeckTable.{DeckTable}
-use Rattle.deck.specs.code.Table.{tableTranscripts}
+use Rattle.deck.specs.code.Table.{DeckTable, tableTranscripts}
 use Rattle.listing.specs.declared.ParsedCall.the-variants.{Read}
 use Rattle.listing.specs.Entries.{callEntries}
 use Rattle.listing.specs.Pieces.{Step, callSteps, pack}

@@ -4,7 +4,7 @@ use Prim.Native.Nat.{_<_}
 use lib.ListN.{getD}
 use native.Mathlib.Omega.{arith}
 use denote.Ref.{now}
-use Rattle.deck.specs.declared.DeckTable.{DeckTable}
+use Rattle.deck.specs.code.Table.{DeckTable}
 use Rattle.consequence.specs.Window.{Window}
 use Rattle.pieces.specs.code.TableIndex.{TableIndex}
 use Rattle.pieces.proofs.Entries.{count-low, row-below, ready, entry-line}

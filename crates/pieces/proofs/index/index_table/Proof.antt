@@ -5,8 +5,7 @@ use mathlib.Core.Path.{_≡_, sym, _∙_, ap}
 use native.Mathlib.Omega.{arith}
 use denote.Ref.{now}
 use lib.ListN.{length, length-replicate}
-use Rattle.deck.specs.declared.DeckTable.{DeckTable}
-use Rattle.deck.specs.code.Table.{rowsAt, transcriptRows, InOrder}
+use Rattle.deck.specs.code.Table.{DeckTable, rowsAt, transcriptRows, InOrder}
 use Rattle.deck.proofs.RowOrder.{rowsOn, row-inside, rows-in-order}
 use Rattle.pieces.specs.code.TableIndex.{TableIndex, Admits, indexRows, emptyIndex, tableIndex}
 use Rattle.pieces.proofs.WholeIndex.{index-on, admits-on, index-end}

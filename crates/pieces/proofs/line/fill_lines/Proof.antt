@@ -9,8 +9,7 @@ use lib.ListN.{length, drop}
 use borrow.Author.Needs.{needs}
 use borrow.Rule.Slice.PartMut.{midOf, same-len-mid}
 use Rattle.consequence.specs.Window.{Window}
-use Rattle.deck.specs.declared.DeckTable.{DeckTable}
-use Rattle.deck.specs.code.Table.{tableTranscripts}
+use Rattle.deck.specs.code.Table.{DeckTable, tableTranscripts}
 use Rattle.listing.specs.WindowFile.{windowOf}
 use Rattle.listing.specs.Pieces.{lineNumber, pack}
 use Rattle.listing.proofs.Lines.{line-inside}
