@@ -1,2 +1,4 @@
 pub mod Contents
+pub mod Numbers
 pub mod code
+pub mod claims

@@ -2,6 +2,7 @@
 use Rattle.deck.specs.declared.DeckAnswer.{DeckAnswer}
 use Rattle.deck.specs.Numbers.{deckNumber, deckRecord}
 use Rattle.contents.specs.declared.Content.{Content}
+use Rattle.contents.specs.Numbers.{contentNumber, contentValue}
 use Rattle.words.specs.declared.VareffectOutcome.{VareffectOutcome}
 
 -- 0 and 0 where the deck is accepted, else the refusal and its record
@@ -10,5 +11,4 @@ deckOutcome a = record { number = deckNumber a; value = deckRecord a }
 
 -- 0 and how many transcripts there are, or the refusal and its record
 abbrev pub contentOutcome : Content → VareffectOutcome
-contentOutcome (Content.Held n) = record { number = 0; value = n }
-contentOutcome (Content.Refused n i) = record { number = n; value = i }
+contentOutcome c = record { number = contentNumber c; value = contentValue c }
