@@ -4,79 +4,7 @@ use crate::piece::next_piece;
 use listing::Cursor;
 use listing::Piece;
 ghost use mathlib.Core.Path.{_≡_};
-ghost use Rattle.deck.specs.code.Table.{tableGiven, emptyTable};
 ghost use Rattle.listing.specs.Pieces.{packed, pieceOf, pieceTo};
-ghost use Rattle.pieces.specs.code.TableIndex.{indexGiven, emptyIndex};
-
-// A listing is opened in columns that come as zeros, and the piece of it from a cursor on is put.
-fn open_piece(
-    deck: &[u8],
-    window: &[u8],
-    calls: &[u8],
-    kinds: &mut [u8; 4096],
-    marks: &mut [u8; 4096],
-    ids: &mut [u32; 4096],
-    numbers: &mut [u16; 4096],
-    starts: &mut [u64; 4096],
-    ends: &mut [u64; 4096],
-    rows: &mut [u16; 4096],
-    short: &mut [bool; 4096],
-    exons: &mut [u16; 4096],
-    bounds: &mut [u16; 4096],
-    segments: &mut [u16; 4096],
-    bases: &mut [u16; 4096],
-    sums: &mut [u32; 4096],
-    cursor: Cursor,
-    out: &mut [u8],
-) -> Piece
-    requires { ⌜ tableGiven kinds marks ids numbers starts ends ≡ emptyTable ⌝ }
-    requires { ⌜ indexGiven 0 rows short exons bounds segments bases sums ≡ emptyIndex ⌝ }
-    ensures { λ r.
-        let p = packed (now deck.entry) (now window.entry) (now calls.entry) cursor (now out.entry) in
-        ⌜ (r ≡ pieceOf p) × (now out.exit ≡ pieceTo (now out.entry) p) ⌝ }
-{
-    let opened = open_listing(
-        deck,
-        window,
-        calls,
-        kinds,
-        marks,
-        ids,
-        numbers,
-        starts,
-        ends,
-        rows,
-        short,
-        exons,
-        bounds,
-        segments,
-        bases,
-        sums,
-    );
-    let opening = opened.opening;
-    next_piece(
-        deck,
-        window,
-        calls,
-        opening,
-        kinds,
-        marks,
-        ids,
-        numbers,
-        starts,
-        ends,
-        opened.count,
-        rows,
-        short,
-        exons,
-        bounds,
-        segments,
-        bases,
-        sums,
-        cursor,
-        out,
-    )
-}
 
 // The piece of a deck's, a window file's and the calls' listing from a cursor on.
 pub fn list_piece(deck: &[u8], window: &[u8], calls: &[u8], cursor: Cursor, out: &mut [u8]) -> Piece
@@ -97,7 +25,7 @@ pub fn list_piece(deck: &[u8], window: &[u8], calls: &[u8], cursor: Cursor, out:
     let mut segments = [0u16; 4096];
     let mut bases = [0u16; 4096];
     let mut sums = [0u32; 4096];
-    open_piece(
+    let opened = open_listing(
         deck,
         window,
         calls,
@@ -114,6 +42,27 @@ pub fn list_piece(deck: &[u8], window: &[u8], calls: &[u8], cursor: Cursor, out:
         &mut segments,
         &mut bases,
         &mut sums,
+    );
+    let opening = opened.opening;
+    next_piece(
+        deck,
+        window,
+        calls,
+        opening,
+        &kinds,
+        &marks,
+        &ids,
+        &numbers,
+        &starts,
+        &ends,
+        opened.count,
+        &rows,
+        &short,
+        &exons,
+        &bounds,
+        &segments,
+        &bases,
+        &sums,
         cursor,
         out,
     )

@@ -6,9 +6,12 @@ use Rattle.pieces.specs.code.TableIndex.{emptyIndex}
 use Rattle.pieces.proofs.list.list_piece.Statement.{statement}
 use Rattle.pieces.proofs.list.list_piece.Tie as tie
 
-open-piece-requires : tie.Need-open-piece-requires
+open-listing-requires : tie.Need-open-listing-requires
 unfolding emptyIndex
-open-piece-requires c κs = (refl, refl)
+open-listing-requires c κs = (refl, refl)
+
+next-piece-requires : tie.Need-next-piece-requires
+next-piece-requires c κs = search needs
 
 same-length : tie.Need-same-length
 same-length c = search needs
@@ -17,4 +20,5 @@ returns : tie.Need-returns
 returns c = search needs
 
 pub list-piece-spec : {M : Type 1} → statement M
-list-piece-spec = tie.close (tie.spec open-piece-requires same-length returns)
+list-piece-spec =
+    tie.close (tie.spec open-listing-requires next-piece-requires same-length returns)
