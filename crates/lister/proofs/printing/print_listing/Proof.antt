@@ -11,7 +11,7 @@ unfolding emptyIndex
 open-listing-requires c κs = (refl, refl)
 
 print-pieces-requires : tie.Need-print-pieces-requires
-print-pieces-requires c κs = search needs
+print-pieces-requires c κs = c .before .before .before .before .before .before .before .before .before .before .before .before .before .open-listing .ensures
 
 returns : tie.Need-returns
 returns c = search needs

@@ -11,7 +11,7 @@ unfolding emptyIndex
 open-listing-requires c κs = (refl, refl)
 
 next-piece-requires : tie.Need-next-piece-requires
-next-piece-requires c κs = search needs
+next-piece-requires c κs = c .before .before .before .before .before .before .before .before .before .before .before .before .before .before .open-listing .ensures
 
 same-length : tie.Need-same-length
 same-length c = search needs
