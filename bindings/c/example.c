@@ -41,15 +41,18 @@ int main(void) {
   const uint64_t seg_starts[] = {110, 160}, seg_ends[] = {130, 170};
   const uint8_t phases[] = {0, 1};
   const uint16_t exons[] = {0, 1};
-  const VareffectModel model = {7, 1, 2, 100, 190, 110, 170, false, true, true};
-  const VareffectTranscript t = {model, exon_starts, exon_ends, 2, phases, exons, seg_starts, seg_ends, 2, NULL, 0};
+  const VareffectTranscript t = {
+      .model = {.id = 7, .chromosome = 1, .exon_count = 2, .tx_start = 100, .tx_end = 190,
+                .has_cds = true, .cds_start = 110, .cds_end = 170, .start_complete = true},
+      .exon_starts = exon_starts, .exon_ends = exon_ends, .exons = 2,
+      .seg_phases = phases, .seg_exons = exons, .seg_starts = seg_starts, .seg_ends = seg_ends, .segments = 2};
 
   /* 90 bases from coordinate 100: all A save T at 111 and 167, G at 112 and 128. */
   uint8_t bases[90];
   memset(bases, 'A', sizeof bases);
   bases[11] = bases[67] = 'T';
   bases[12] = bases[28] = 'G';
-  const VareffectBases window = {{1, 100}, bases, sizeof bases};
+  const VareffectBases window = {.window = {.chromosome = 1, .first = 100}, .bases = bases, .len = sizeof bases};
 
   const uint16_t chromosomes[] = {1, 1, 1};
   const uint64_t positions[] = {111, 129, 130};

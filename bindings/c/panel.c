@@ -12,9 +12,7 @@ static size_t read_file(const char *path, uint8_t bytes[65537]) {
     perror(path);
     exit(2);
   }
-  size_t len = fread(bytes, 1, 65537, file);
-  fclose(file);
-  return len;
+  return fread(bytes, 1, 65537, file);
 }
 
 static int refuse(uint64_t number) {
@@ -27,9 +25,11 @@ int main(int count, char **words) {
   static VareffectDeckTranscript held;
   size_t deck_len = read_file(count > 2 ? words[1] : "demo/panel/deck.bin", deck);
   size_t file_len = read_file(count > 2 ? words[2] : "demo/panel/window.bin", file);
-  char *one[] = {(char *)"7", (char *)"20318", (char *)"A", (char *)"G"}, **told = count > 6 ? words + 3 : one;
-  VareffectCall call = {(uint16_t)atoi(told[0]), (uint8_t)*told[2], (uint8_t)*told[3], strtoull(told[1], NULL, 10)};
-
+  VareffectCall call;
+  call.chromosome = count > 6 ? (uint16_t)atoi(words[3]) : 7;
+  call.position = count > 6 ? strtoull(words[4], NULL, 10) : 20318;
+  call.ref_base = count > 6 ? (uint8_t)*words[5] : 'A';
+  call.alt_base = count > 6 ? (uint8_t)*words[6] : 'G';
   VareffectOutcome deal = vareffect_read_transcript(deck, deck_len, 0, &held);
   if (deal.number != 0) {
     printf("deck refused, number %d at record %d\n", (int)deal.number, (int)deal.value);

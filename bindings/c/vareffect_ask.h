@@ -134,11 +134,27 @@ static inline VareffectOutcome vareffect_read_transcript(const uint8_t *deck, si
 /* The transcript as the questions take it, as long as `from` stays. */
 static inline VareffectTranscript vareffect_lend(const VareffectDeckTranscript *from) {
   const uint64_t *s = from->scalars;
-  VareffectModel model = {(uint32_t)s[0], (uint16_t)s[1], (uint16_t)s[3], s[4], s[5], s[7], s[8],
-                          s[2] == 1, s[6] == 1, s[9] == 1};
-  VareffectTranscript t = {model, from->exon_starts, from->exon_ends, (size_t)s[3],
-                           from->seg_phases, from->seg_exons, from->seg_starts, from->seg_ends, (size_t)s[10],
-                           from->selenocysteine, (size_t)s[11]};
+  VareffectTranscript t;
+  t.model.id = (uint32_t)s[0];
+  t.model.chromosome = (uint16_t)s[1];
+  t.model.minus = s[2] == 1;
+  t.model.exon_count = (uint16_t)s[3];
+  t.model.tx_start = s[4];
+  t.model.tx_end = s[5];
+  t.model.has_cds = s[6] == 1;
+  t.model.cds_start = s[7];
+  t.model.cds_end = s[8];
+  t.model.start_complete = s[9] == 1;
+  t.exon_starts = from->exon_starts;
+  t.exon_ends = from->exon_ends;
+  t.exons = (size_t)s[3];
+  t.seg_phases = from->seg_phases;
+  t.seg_exons = from->seg_exons;
+  t.seg_starts = from->seg_starts;
+  t.seg_ends = from->seg_ends;
+  t.segments = (size_t)s[10];
+  t.selenocysteine = from->selenocysteine;
+  t.selenocysteines = (size_t)s[11];
   return t;
 }
 

@@ -1,0 +1,123 @@
+/* Every field of the answers by its name, refused answers, and empty lists that are NULL. Prints what differs. */
+#include "vareffect.h"
+#include "vareffect_words.h"
+
+#include <inttypes.h>
+#include <stdio.h>
+#include <stdlib.h>
+
+static int failed;
+
+#define SAME(got, due)                                                                            \
+  do {                                                                                            \
+    if ((int64_t)(got) != (int64_t)(due)) {                                                       \
+      failed++;                                                                                   \
+      printf("line %d: %s is %" PRId64 ", not %s\n", __LINE__, #got, (int64_t)(got), #due);       \
+    }                                                                                             \
+  } while (0)
+
+/* Introns of 30 bases and of 1; the CDS reaches from the first exon into the last. */
+static const uint64_t starts[] = {100, 160, 191}, ends[] = {130, 190, 240}, seg_starts[] = {110, 160, 191}, seg_ends[] = {130, 190, 230};
+static const uint8_t phases[] = {0, 1, 1};
+static const uint16_t exons[] = {0, 1, 2};
+static const VareffectTranscript coding = {
+    .model = {.id = 7, .chromosome = 1, .exon_count = 3, .tx_start = 100, .tx_end = 240,
+              .has_cds = true, .cds_start = 110, .cds_end = 230, .start_complete = true},
+    .exon_starts = starts, .exon_ends = ends, .exons = 3,
+    .seg_phases = phases, .seg_exons = exons, .seg_starts = seg_starts, .seg_ends = seg_ends, .segments = 3};
+
+static void check_place(uint64_t at, int64_t kind, int64_t mark, int64_t index, int64_t segment, int64_t in_codon, int64_t distance, int64_t codon) {
+  VareffectPlaceAnswer a, listed;
+  SAME(vareffect_ask_place(&coding, 1, at, at + 1, &a), 0);
+  SAME(a.refusal, 0);
+  SAME(a.kind, kind);
+  SAME(a.mark, mark);
+  SAME(a.index, index);
+  SAME(a.segment, segment);
+  SAME(a.in_codon, in_codon);
+  SAME(a.distance, distance);
+  SAME(a.codon, codon);
+  SAME(vareffect_ask_places(&coding, 1, &at, 1, &listed), 0);
+  SAME(memcmp(&a, &listed, sizeof a), 0);
+}
+
+static void check_interval(uint64_t start, uint64_t end, int64_t side, int64_t distance, int64_t held, int64_t intron, int64_t donor, int64_t acceptor) {
+  VareffectIntervalAnswer a;
+  SAME(vareffect_ask_interval(&coding, 1, start, end, &a), 0);
+  SAME(a.side, side);
+  SAME(a.distance, distance);
+  SAME(a.in_short_intron, held);
+  SAME(a.short_intron, intron);
+  SAME(a.donor_spill, donor);
+  SAME(a.acceptor_spill, acceptor);
+}
+
+static void check_refused(void) {
+  static const VareffectPlaceAnswer no_place = {.refusal = 14};
+  static const VareffectCallAnswer no_call = {.place = {.refusal = 17}};
+  static const VareffectIntervalAnswer no_interval = {.refusal = 15};
+  const VareffectBases empty = {.window = {.chromosome = 1, .first = 100}};
+  const VareffectCall call = {.chromosome = 1, .ref_base = 'A', .alt_base = 'C', .position = 111};
+  VareffectTranscript none = {.model = coding.model};
+  VareffectPlaceAnswer place[2];
+  VareffectCallAnswer answer;
+  VareffectIntervalAnswer interval;
+  SAME(vareffect_ask_place(&coding, 2, 111, 112, place), 14);
+  SAME(memcmp(place, &no_place, sizeof no_place), 0);
+  SAME(vareffect_ask_call(&coding, &empty, call, &answer), 17);
+  SAME(memcmp(&answer, &no_call, sizeof no_call), 0);
+  SAME(vareffect_ask_interval(&coding, 1, 112, 111, &interval), 15);
+  SAME(memcmp(&interval, &no_interval, sizeof no_interval), 0);
+  SAME(vareffect_ask_admit(&none), 1);
+  SAME(vareffect_ask_places(&none, 1, seg_starts, 2, place), 1);
+  SAME(place[1].refusal, 1);
+  SAME(place[1].kind, 0);
+  SAME(vareffect_ask_calls(&none, &empty, exons, seg_starts, phases, phases, 1, &answer), 1);
+  SAME(answer.place.refusal, 1);
+  SAME(vareffect_ask_places(&coding, 1, NULL, 0, NULL), 0);
+  SAME(vareffect_ask_calls(&coding, &empty, NULL, NULL, NULL, NULL, 0, NULL), 0);
+}
+
+static void check_outcomes(void) {
+  static VareffectDeckTranscript held;
+  const VareffectBases empty = {.window = {.chromosome = 1, .first = 100}};
+  const VareffectCall call = {.chromosome = 1, .ref_base = 'A', .alt_base = 'C', .position = 111};
+  uint8_t line[VAREFFECT_LINE] = {0};
+  VareffectOutcome o = vareffect_ask_line(&coding, &empty, call, 9, line);
+  SAME(o.number, 0);
+  SAME(o.value, 7);
+  SAME(strcmp((char *)line, "9 7 17\n"), 0);
+  SAME(vareffect_read_transcript(NULL, 0, 0, &held).number, 22);
+  SAME(vareffect_abi(), VAREFFECT_ABI);
+}
+
+/* Every number has a text, and those that are not known share one. */
+static void check_words(void) {
+  SAME(strcmp(vareffect_place_name(VAREFFECT_NON_CODING_INTRON), "NonCodingIntron"), 0);
+  SAME(strcmp(vareffect_place_name(VAREFFECT_SPLICE_DONOR), "SpliceDonor"), 0);
+  SAME(strcmp(vareffect_term_name(28), "intergenic_variant"), 0);
+  SAME(strcmp(vareffect_term_name(0), vareffect_term_name(29)), 0);
+  SAME(strcmp(vareffect_place_name(13), vareffect_place_name(UINT64_MAX)), 0);
+  for (uint64_t n = 0; n <= 28; n++) {
+    SAME(strcmp(vareffect_refusal_cause(n), vareffect_refusal_cause(29)) != 0, 1);
+    SAME(strcmp(vareffect_refusal_advice(n), vareffect_refusal_advice(UINT64_MAX)) != 0, 1);
+  }
+}
+
+int main(void) {
+  check_place(111, VAREFFECT_CDS_EXON, 0, 0, 0, 1, 1, 1);
+  check_place(189, VAREFFECT_CDS_EXON, 1, 1, 1, 1, 49, 17);
+  check_place(105, VAREFFECT_FIVE_PRIME_UTR, 0, 0, 0, 0, -5, 0);
+  check_place(190, VAREFFECT_FRAMESHIFT_INTRON, 0, 1, 0, 0, 1, 0);
+  check_place(158, VAREFFECT_SPLICE_ACCEPTOR, 0, 0, 0, 0, 2, 0);
+  check_place(155, VAREFFECT_SPLICE_REGION, 1, 0, 0, 0, -5, 0);
+  check_interval(90, 95, 1, 6, 0, 0, 0, 0);
+  check_interval(190, 191, 0, 0, 1, 1, 0, 0);
+  check_interval(245, 246, 2, 6, 0, 0, 0, 0);
+  check_interval(189, 190, 0, 0, 0, 0, 0, 1);
+  check_interval(191, 192, 0, 0, 0, 0, 1, 0);
+  check_refused();
+  check_outcomes();
+  check_words();
+  return failed != 0;
+}
