@@ -74,6 +74,8 @@ static void check_refused(void) {
   SAME(place[1].kind, 0);
   SAME(vareffect_ask_calls(&none, &empty, exons, seg_starts, phases, phases, 1, &answer), 1);
   SAME(answer.place.refusal, 1);
+  SAME(vareffect_lent(NULL, 0) != NULL, 1);
+  SAME(vareffect_lent(place, 2) == place, 1);
   SAME(vareffect_ask_places(&coding, 1, NULL, 0, NULL), 0);
   SAME(vareffect_ask_calls(&coding, &empty, NULL, NULL, NULL, NULL, 0, NULL), 0);
 }
