@@ -66,12 +66,23 @@ pub fn lines(subjects: &[Subject], window: &[u8], calls: &[u8]) -> Vec<Vec<u8>> 
     lines
 }
 
+/// The size of a buffer: what some of the lines fill, or one byte less, or any.
+fn size(rng: &mut Rng, lines: &[Vec<u8>]) -> usize {
+    let some = rng.below(lines.len() as u32 + 1) as usize;
+    let filled: usize = lines[..some].iter().map(Vec::len).sum();
+    match rng.below(4) {
+        0 => filled,
+        1 => filled.saturating_sub(1),
+        _ => rng.pick(&[0, 5, 30, 60, 200, 1_553, 5_000]) + rng.below(40) as usize,
+    }
+}
+
 /// Whether the listing gives these lines, in pieces as long as buffers of random sizes allow, and 28 for a buffer too small.
 pub fn same_pieces(rng: &mut Rng, listing: &Listing, lines: &[Vec<u8>]) -> bool {
     let mut left = listing.clone();
     let mut rest = lines;
     loop {
-        let size = rng.pick(&[0, 5, 30, 60, 200, 1_553, 5_000]) + rng.below(40) as usize;
+        let size = size(rng, rest);
         let (mut count, mut length) = (0, 0);
         while count < rest.len() && length + rest[count].len() <= size {
             length += rest[count].len();

@@ -13,6 +13,7 @@ typedef struct Asked {
   uint8_t *text; /* behind the words */
   size_t len;
   uint64_t refused;
+  int turn; /* 1: the second transcript or deck is asked first */
 } Asked;
 
 typedef struct File {
@@ -79,11 +80,12 @@ static void prepare(char **folders) {
   }
 }
 
-static Asked *new_asked(void) {
+static Asked *new_asked(int turn) {
   Asked *a = (Asked *)calloc(1, sizeof *a);
   if (a == NULL)
     exit(2);
   a->text = (uint8_t *)a->words;
+  a->turn = turn;
   return a;
 }
 
@@ -98,43 +100,43 @@ static void ask_abi(Asked *a) { put_number(a, vareffect_abi()); }
 
 static void ask_admit(Asked *a) {
   for (int k = 0; k < 2; k++)
-    a->refused |= vareffect_ask_admit(&transcripts[k]);
+    a->refused |= vareffect_ask_admit(&transcripts[k ^ a->turn]);
 }
 
 static void ask_place(Asked *a) {
   for (int i = 0; i < 2 * POSITIONS; i++, a->len += 64)
-    a->refused |= vareffect_ask_place(&transcripts[i % 2], 1, positions[i / 2], positions[i / 2] + 1,
+    a->refused |= vareffect_ask_place(&transcripts[i % 2 ^ a->turn], 1, positions[i / 2], positions[i / 2] + 1,
                                       (VareffectPlaceAnswer *)(a->text + a->len));
 }
 
 static void ask_places(Asked *a) {
   for (int k = 0; k < 2; k++, a->len += 64 * POSITIONS)
-    a->refused |= vareffect_ask_places(&transcripts[k], 1, positions, POSITIONS, (VareffectPlaceAnswer *)(a->text + a->len));
+    a->refused |= vareffect_ask_places(&transcripts[k ^ a->turn], 1, positions, POSITIONS, (VareffectPlaceAnswer *)(a->text + a->len));
 }
 
 static void ask_call(Asked *a) {
   for (int i = 0; i < 2 * POSITIONS; i++, a->len += 160) {
     VareffectCall call = {1, refs[i / 2], alts[i / 2], positions[i / 2]};
-    a->refused |= vareffect_ask_call(&transcripts[i % 2], &window, call, (VareffectCallAnswer *)(a->text + a->len));
+    a->refused |= vareffect_ask_call(&transcripts[i % 2 ^ a->turn], &window, call, (VareffectCallAnswer *)(a->text + a->len));
   }
 }
 
 static void ask_calls(Asked *a) {
   for (int k = 0; k < 2; k++, a->len += 160 * POSITIONS)
-    a->refused |= vareffect_ask_calls(&transcripts[k], &window, chromosomes, positions, refs, alts, POSITIONS,
+    a->refused |= vareffect_ask_calls(&transcripts[k ^ a->turn], &window, chromosomes, positions, refs, alts, POSITIONS,
                                       (VareffectCallAnswer *)(a->text + a->len));
 }
 
 static void ask_interval(Asked *a) {
   for (int i = 0; i < 2 * POSITIONS; i++, a->len += 56)
-    a->refused |= vareffect_ask_interval(&transcripts[i % 2], 1, positions[i / 2], positions[i / 2] + (uint64_t)i % 80,
+    a->refused |= vareffect_ask_interval(&transcripts[i % 2 ^ a->turn], 1, positions[i / 2], positions[i / 2] + (uint64_t)i % 80,
                                          (VareffectIntervalAnswer *)(a->text + a->len));
 }
 
 static void ask_line(Asked *a) {
   for (int i = 0; i < 2 * POSITIONS; i++) {
     VareffectCall call = {1, refs[i / 2], alts[i / 2], positions[i / 2]};
-    VareffectOutcome o = vareffect_ask_line(&transcripts[i % 2], &window, call, UINT64_MAX, a->text + a->len);
+    VareffectOutcome o = vareffect_ask_line(&transcripts[i % 2 ^ a->turn], &window, call, UINT64_MAX, a->text + a->len);
     a->refused |= o.number;
     a->len += o.value;
   }
@@ -142,19 +144,19 @@ static void ask_line(Asked *a) {
 
 static void ask_check_deck(Asked *a) {
   for (int k = 0; k < 2; k++)
-    put_outcome(a, vareffect_check_deck(files[k][0].bytes, files[k][0].len));
+    put_outcome(a, vareffect_check_deck(files[k ^ a->turn][0].bytes, files[k ^ a->turn][0].len));
 }
 
 static void ask_deck_ids(Asked *a) {
   for (int k = 0; k < 2; k++, a->len += 8192)
-    put_outcome(a, vareffect_deck_ids(files[k][0].bytes, files[k][0].len, (uint32_t *)(a->text + a->len + 8), 2048));
+    put_outcome(a, vareffect_deck_ids(files[k ^ a->turn][0].bytes, files[k ^ a->turn][0].len, (uint32_t *)(a->text + a->len + 8), 2048));
 }
 
 static void ask_deck_transcript(Asked *a) {
   for (int k = 0; k < 2; k++)
     for (uint64_t place = 0; place < 8; place += 7, a->len += sizeof(VareffectDeckTranscript)) {
       VareffectDeckTranscript *into = (VareffectDeckTranscript *)(a->text + a->len + 8);
-      put_outcome(a, vareffect_read_transcript(files[k][0].bytes, files[k][0].len, place, into));
+      put_outcome(a, vareffect_read_transcript(files[k ^ a->turn][0].bytes, files[k ^ a->turn][0].len, place, into));
     }
 }
 
@@ -162,7 +164,7 @@ static void ask_deck_transcript(Asked *a) {
 static void ask_list(Asked *a) {
   for (int k = 0; k < 2; k++) {
     uint64_t cursor[3] = {0, 0, 0};
-    const File *f = files[k];
+    const File *f = files[k ^ a->turn];
     while (cursor[2] == 0 && a->refused == 0) {
       VareffectOutcome o = vareffect_list(f[0].bytes, f[0].len, f[1].bytes, f[1].len, f[2].bytes, f[2].len, cursor,
                                           a->text + a->len, 100000);

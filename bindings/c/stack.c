@@ -56,7 +56,7 @@ int main(int count, char **words) {
   if (count != 3)
     return 2;
   prepare(words + 1);
-  asked = new_asked();
+  asked = new_asked(0);
   for (int i = 0; i < QUESTIONS; i++) {
     question = &questions[i];
     if (status_with(VAREFFECT_STACK) != 0) {
