@@ -93,10 +93,20 @@ static void check_outcomes(void) {
   SAME(vareffect_abi(), VAREFFECT_ABI);
 }
 
+static const struct {
+  uint64_t kind;
+  const char *name;
+} kinds[] = {{VAREFFECT_UPSTREAM, "Upstream"}, {VAREFFECT_DOWNSTREAM, "Downstream"}, {VAREFFECT_DISTAL, "Distal"},
+             {VAREFFECT_FIVE_PRIME_UTR, "FivePrimeUtr"}, {VAREFFECT_CDS_EXON, "CdsExon"},
+             {VAREFFECT_THREE_PRIME_UTR, "ThreePrimeUtr"}, {VAREFFECT_SPLICE_DONOR, "SpliceDonor"},
+             {VAREFFECT_SPLICE_ACCEPTOR, "SpliceAcceptor"}, {VAREFFECT_SPLICE_REGION, "SpliceRegion"},
+             {VAREFFECT_INTRON, "Intron"}, {VAREFFECT_FRAMESHIFT_INTRON, "FrameshiftIntron"},
+             {VAREFFECT_NON_CODING_EXON, "NonCodingExon"}, {VAREFFECT_NON_CODING_INTRON, "NonCodingIntron"}};
+
 /* Every number has a text, and those that are not known share one. */
 static void check_words(void) {
-  SAME(strcmp(vareffect_place_name(VAREFFECT_NON_CODING_INTRON), "NonCodingIntron"), 0);
-  SAME(strcmp(vareffect_place_name(VAREFFECT_SPLICE_DONOR), "SpliceDonor"), 0);
+  for (size_t i = 0; i < sizeof kinds / sizeof *kinds; i++)
+    SAME(strcmp(vareffect_place_name(kinds[i].kind), kinds[i].name), 0);
   SAME(strcmp(vareffect_term_name(28), "intergenic_variant"), 0);
   SAME(strcmp(vareffect_term_name(0), vareffect_term_name(29)), 0);
   SAME(strcmp(vareffect_place_name(13), vareffect_place_name(UINT64_MAX)), 0);

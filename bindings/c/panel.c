@@ -23,12 +23,12 @@ static int refuse(uint64_t number) {
 int main(int count, char **words) {
   static uint8_t deck[65537], file[65537];
   static VareffectDeckTranscript held;
-  size_t deck_len = read_file(count > 2 ? words[1] : "demo/panel/deck.bin", deck);
+  size_t deck_len = read_file(count > 1 ? words[1] : "demo/panel/deck.bin", deck);
   size_t file_len = read_file(count > 2 ? words[2] : "demo/panel/window.bin", file);
   VareffectCall call;
-  call.chromosome = count > 6 ? (uint16_t)atoi(words[3]) : 7;
-  call.position = count > 6 ? strtoull(words[4], NULL, 10) : 20318;
-  call.ref_base = count > 6 ? (uint8_t)*words[5] : 'A';
+  call.chromosome = count > 3 ? (uint16_t)atoi(words[3]) : 7;
+  call.position = count > 4 ? strtoull(words[4], NULL, 10) : 20318;
+  call.ref_base = count > 5 ? (uint8_t)*words[5] : 'A';
   call.alt_base = count > 6 ? (uint8_t)*words[6] : 'G';
   VareffectOutcome deal = vareffect_read_transcript(deck, deck_len, 0, &held);
   if (deal.number != 0) {

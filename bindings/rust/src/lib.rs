@@ -28,20 +28,23 @@
 mod answer;
 mod ask;
 mod call;
+mod codons;
 mod deck;
 pub mod example;
 mod held;
 mod interval;
 mod listing;
 mod place;
+mod questions;
 mod raw;
 mod refusal;
 mod terms;
 mod transcript;
 mod words;
 
-pub use answer::{AminoAcids, Codon, Codons, ConsequenceResult, Numbered};
+pub use answer::{ConsequenceResult, Numbered};
 pub use call::{Call, Window};
+pub use codons::{AminoAcids, Codon, Codons};
 pub use deck::Deck;
 pub use interval::{Flank, Interval, SpliceSpill};
 pub use listing::Listing;
