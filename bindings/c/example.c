@@ -26,7 +26,7 @@ static void print_line(int line, uint32_t id, const VareffectCallAnswer *a) {
     print_count(a->cdna_position, 0);
     print_count(a->protein_start, 0);
     printf(" %s %s", codons, letters);
-    for (int rank = 1; rank <= 28; rank++)
+    for (uint64_t rank = 1; rank <= 28; rank++)
       if (a->terms >> (rank - 1) & 1) {
         printf("%c%s", before, vareffect_term_name(rank));
         before = ',';

@@ -50,7 +50,7 @@ int main(int count, char **words) {
       printf("number %d, %s", (int)refusal, vareffect_refusal_cause(refusal));
     else
       printf("%s", vareffect_place_name((uint64_t)answer.place.kind));
-    for (int rank = 1; rank <= 28; rank++)
+    for (uint64_t rank = 1; rank <= 28; rank++)
       if (answer.terms >> (rank - 1) & 1)
         printf(" %s", vareffect_term_name(rank));
     putchar('\n');
