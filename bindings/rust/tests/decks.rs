@@ -1,6 +1,8 @@
 //! The panel of the folder demo: its transcripts, and its listing in pieces.
 
 use std::collections::BTreeSet;
+use std::fs;
+use std::path::Path;
 use vareffect_proved::{Deck, Listing, Refusal, Transcript, Window};
 
 const DECK: &[u8] = include_bytes!("../../../demo/panel/deck.bin");
@@ -107,6 +109,19 @@ fn listing() {
     let pieces: Vec<Vec<u8>> = deck.list(WINDOW, &many).collect();
     assert!(pieces.len() > 1 && pieces.iter().all(|piece| piece.ends_with(b"\n")));
     assert_eq!(pieces.concat(), deck.list(WINDOW, &many).whole());
+}
+
+/// Decks with as many transcripts, and with as many exons, as fit into 65,536 bytes.
+#[test]
+fn full_decks() {
+    for (name, transcripts) in [("full-deck-transcripts", 2_047), ("full-deck-exons", 8)] {
+        let folder = Path::new(env!("CARGO_MANIFEST_DIR")).join("../../tests/cases");
+        let read = |file| fs::read(folder.join(name).join(file)).unwrap();
+        let deck = Deck::read(&read("deck.bin")).unwrap();
+        assert_eq!(deck.transcripts().len(), transcripts);
+        let lines = deck.list(&read("window.bin"), &read("calls")).whole();
+        assert!(lines == read("stdout"), "{name}");
+    }
 }
 
 #[test]
