@@ -11,7 +11,8 @@
    Threads. Nothing is global and nothing is kept after a call: all functions
    may be called from any number of threads at once.
 
-   Stack. A call needs at most VAREFFECT_STACK bytes of the caller's stack. */
+   Stack. A call needs at most VAREFFECT_STACK bytes of the caller's stack,
+   beside what the caller itself keeps there. */
 #ifndef VAREFFECT_H
 #define VAREFFECT_H
 
@@ -33,8 +34,8 @@ extern "C" {
 
 /* ---- Questions and answers ---- */
 
-/* A transcript without its lists. A bool is 0 or 1. Without CDS: has_cds false,
-   cds_start and cds_end 0. start_complete: the CDS begins with a whole codon. */
+/* A transcript without its lists. A bool is the byte 0 or 1. Without CDS: has_cds
+   false, cds_start and cds_end 0. start_complete: the CDS begins with a whole codon. */
 typedef struct VareffectModel {
   uint32_t id;
   uint16_t chromosome, exon_count;
@@ -125,7 +126,7 @@ typedef struct VareffectOutcome {
   uint64_t number, value;
 } VareffectOutcome;
 
-/* A transcript taken from a deck; vareffect_lend lends it. */
+/* A transcript taken from a deck, 18 KiB; vareffect_lend lends it. */
 typedef struct VareffectDeckTranscript {
   uint64_t scalars[12];
   uint64_t exon_starts[512], exon_ends[512];
