@@ -1,10 +1,10 @@
 //! A transcript of the oracle as the proved library takes it.
 
 use crate::driver::record::Tx;
-use vareffect_proved::{Strand, Transcript};
+use vareffect_proved::{Model, Transcript};
 
 pub struct Lent {
-    head: Transcript<'static>,
+    model: Model,
     exon_starts: Vec<u64>,
     exon_ends: Vec<u64>,
     seg_phases: Vec<u8>,
@@ -16,29 +16,21 @@ pub struct Lent {
 
 impl Lent {
     pub fn new(tx: &Tx) -> Self {
-        let head = Transcript {
+        let (cds_start, cds_end) = tx.cds.unwrap_or_default();
+        let model = Model {
             id: tx.id,
             chromosome: tx.chrom,
-            strand: if tx.minus {
-                Strand::Minus
-            } else {
-                Strand::Plus
-            },
             exon_count: tx.exons.len() as u16,
-            tx_start: u64::from(tx.tx_start()),
-            tx_end: u64::from(tx.tx_end()),
-            cds: tx.cds.map(|(start, end)| (start.into(), end.into())),
-            cds_start_complete: tx.start_complete,
-            exon_starts: &[],
-            exon_ends: &[],
-            seg_phases: &[],
-            seg_exons: &[],
-            seg_starts: &[],
-            seg_ends: &[],
-            selenocysteine: &[],
+            tx_start: tx.tx_start().into(),
+            tx_end: tx.tx_end().into(),
+            cds_start: cds_start.into(),
+            cds_end: cds_end.into(),
+            minus: tx.minus,
+            has_cds: tx.cds.is_some(),
+            start_complete: tx.start_complete,
         };
         Self {
-            head,
+            model,
             exon_starts: tx.exons.iter().map(|e| e.0.into()).collect(),
             exon_ends: tx.exons.iter().map(|e| e.1.into()).collect(),
             seg_phases: tx.segments.iter().map(|s| s.phase).collect(),
@@ -51,6 +43,7 @@ impl Lent {
 
     pub fn transcript(&self) -> Transcript<'_> {
         Transcript {
+            model: self.model,
             exon_starts: &self.exon_starts,
             exon_ends: &self.exon_ends,
             seg_phases: &self.seg_phases,
@@ -58,7 +51,6 @@ impl Lent {
             seg_starts: &self.seg_starts,
             seg_ends: &self.seg_ends,
             selenocysteine: &self.selenocysteine,
-            ..self.head
         }
     }
 }

@@ -84,11 +84,11 @@ fn case(rng: &mut Rng, count: u32, minus: bool) -> Case {
 }
 
 fn proved_places(t: &Transcript, places: &[u64], out: &mut [i64]) -> Result<(), Refusal> {
-    t.places_into(t.chromosome, places, out)
+    t.places_into(t.model.chromosome, places, out)
 }
 
 fn proved_place(t: &Transcript, at: u64, out: &mut [i64; 8]) -> Result<(), Refusal> {
-    t.place_into(t.chromosome, at, at + 1, out)
+    t.place_into(t.model.chromosome, at, at + 1, out)
 }
 
 struct Lists {
@@ -109,7 +109,7 @@ fn lists(c: &Case) -> Lists {
 
 fn lent<'a>(t: &Transcript, w: &'a FastaReader) -> Window<'a> {
     Window {
-        chromosome: t.chromosome,
+        chromosome: t.model.chromosome,
         first: w.first,
         bases: &w.bytes,
     }
@@ -138,7 +138,7 @@ fn proved_call(
     out: &mut [i64; 20],
 ) -> Result<(), Refusal> {
     let call = Call {
-        chromosome: t.chromosome,
+        chromosome: t.model.chromosome,
         position: c.0,
         ref_base: c.1,
         alt_base: c.2,

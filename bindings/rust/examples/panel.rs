@@ -40,7 +40,7 @@ fn main() -> ExitCode {
     };
     for transcript in deck.transcripts() {
         let admitted = transcript.admit().map_or("refused", |()| "admitted");
-        print!("{} {admitted}: ", transcript.id);
+        print!("{} {admitted}: ", transcript.model.id);
         match transcript.call(window, call) {
             Ok(answer) => {
                 let terms: Vec<&str> = answer.consequences.names().collect();

@@ -1,8 +1,9 @@
 //! The questions with their answers as numbers: the only place where a
-//! transcript is handed to the library.
+//! transcript is handed to the library. `place_into` and `call_into` are inlined,
+//! so that a call made for one question goes over in registers.
 
 use crate::raw;
-use crate::{Call, Refusal, Strand, Transcript, Window};
+use crate::{Call, Refusal, Transcript, Window};
 
 /// Calls a function of the library with what stands before the transcript, the
 /// transcript, and what stands behind it.
@@ -13,7 +14,7 @@ macro_rules! ask {
         unsafe {
             raw::$name(
                 $($before,)*
-                $t.model(),
+                $t.model,
                 $t.exon_starts.as_ptr(), $t.exon_starts.len(),
                 $t.exon_ends.as_ptr(), $t.exon_ends.len(),
                 $t.seg_phases.as_ptr(), $t.seg_phases.len(),
@@ -30,22 +31,7 @@ macro_rules! ask {
 /// Answers as the numbers that the C header `vareffect.h` names, put into a lent
 /// buffer: nothing is converted and nothing allocated.
 impl Transcript<'_> {
-    fn model(&self) -> raw::Model {
-        let (cds_start, cds_end) = self.cds.unwrap_or((0, 0));
-        raw::Model {
-            id: self.id,
-            chromosome: self.chromosome,
-            exon_count: self.exon_count,
-            tx_start: self.tx_start,
-            tx_end: self.tx_end,
-            cds_start,
-            cds_end,
-            minus: self.strand == Strand::Minus,
-            has_cds: self.cds.is_some(),
-            start_complete: self.cds_start_complete,
-        }
-    }
-
+    #[inline]
     pub(crate) fn admit_number(&self) -> u8 {
         ask!(vareffect_admit(; self;))
     }
@@ -58,6 +44,7 @@ impl Transcript<'_> {
     /// assert_eq!(words, [0, 4, 0, 0, 0, 1, 1, 1]);
     /// # Ok::<(), vareffect_proved::Refusal>(())
     /// ```
+    #[inline]
     #[rustfmt::skip]
     pub fn place_into(&self, chromosome: u16, start: u64, end: u64, out: &mut [i64; 8]) -> Result<(), Refusal> {
         Refusal::judged(ask!(vareffect_place(chromosome, start, end; self; out)))
@@ -89,6 +76,7 @@ impl Transcript<'_> {
     /// assert_eq!(words[19], 1 << 7);
     /// # Ok::<(), vareffect_proved::Refusal>(())
     /// ```
+    #[inline]
     pub fn call_into(
         &self,
         window: Window,
@@ -96,7 +84,7 @@ impl Transcript<'_> {
         out: &mut [i64; 20],
     ) -> Result<(), Refusal> {
         let number = ask!(vareffect_call(
-            window.raw(), window.bases.as_ptr(), window.bases.len(), call.raw(); self; out));
+            window.raw(), window.bases.as_ptr(), window.bases.len(), call; self; out));
         Refusal::judged(number)
     }
 
@@ -136,7 +124,7 @@ impl Transcript<'_> {
         out: &mut [u8],
     ) -> usize {
         let outcome = ask!(vareffect_line(
-            number, window.raw(), window.bases.as_ptr(), window.bases.len(), call.raw();
+            number, window.raw(), window.bases.as_ptr(), window.bases.len(), call;
             self; out.as_mut_ptr(), out.len()));
         outcome.value as usize
     }

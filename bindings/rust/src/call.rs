@@ -51,27 +51,18 @@ impl<'a> Window<'a> {
     }
 }
 
-/// A change of one base, as on the plus strand.
+/// A change of one base, as on the plus strand, laid out as the library takes it
+/// (`VareffectCall` of the C header).
 ///
 /// ```
 /// let call = vareffect_proved::Call { chromosome: 7, position: 20_318, ref_base: b'A', alt_base: b'G' };
 /// assert_ne!(call.ref_base, call.alt_base);
 /// ```
+#[repr(C)]
 #[derive(Debug, Clone, Copy, PartialEq, Eq, Hash)]
 pub struct Call {
     pub chromosome: u16,
-    pub position: u64,
     pub ref_base: u8,
     pub alt_base: u8,
-}
-
-impl Call {
-    pub(crate) fn raw(&self) -> raw::Call {
-        raw::Call {
-            chromosome: self.chromosome,
-            ref_base: self.ref_base,
-            alt_base: self.alt_base,
-            position: self.position,
-        }
-    }
+    pub position: u64,
 }

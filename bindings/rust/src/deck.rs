@@ -78,7 +78,7 @@ impl Deck {
     /// use vareffect_proved::{Deck, example};
     ///
     /// let deck = Deck::read(&example::DECK)?;
-    /// let exons: Vec<u16> = deck.transcripts().map(|t| t.exon_count).collect();
+    /// let exons: Vec<u16> = deck.transcripts().map(|t| t.model.exon_count).collect();
     /// assert_eq!(exons, [2]);
     /// # Ok::<(), vareffect_proved::Refusal>(())
     /// ```

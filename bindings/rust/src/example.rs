@@ -9,7 +9,7 @@
 //! # Ok::<(), vareffect_proved::Refusal>(())
 //! ```
 
-use crate::{Strand, Transcript, Window};
+use crate::{Model, Transcript, Window};
 
 /// Exons \[100,130) and \[160,190), CDS \[110,170).
 ///
@@ -17,14 +17,18 @@ use crate::{Strand, Transcript, Window};
 /// assert_eq!(vareffect_proved::example::TRANSCRIPT.admit(), Ok(()));
 /// ```
 pub const TRANSCRIPT: Transcript = Transcript {
-    id: 7,
-    chromosome: 1,
-    strand: Strand::Plus,
-    exon_count: 2,
-    tx_start: 100,
-    tx_end: 190,
-    cds: Some((110, 170)),
-    cds_start_complete: true,
+    model: Model {
+        id: 7,
+        chromosome: 1,
+        exon_count: 2,
+        tx_start: 100,
+        tx_end: 190,
+        cds_start: 110,
+        cds_end: 170,
+        minus: false,
+        has_cds: true,
+        start_complete: true,
+    },
     exon_starts: &[100, 160],
     exon_ends: &[130, 190],
     seg_phases: &[0, 1],

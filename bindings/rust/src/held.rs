@@ -1,12 +1,12 @@
 //! A transcript that was taken out of a deck.
 
 use crate::raw;
-use crate::{Refusal, Strand, Transcript};
+use crate::{Model, Refusal, Transcript};
 
 /// A transcript of the deck with its lists.
 #[derive(Debug, Clone)]
 pub(crate) struct Held {
-    scalars: [u64; 12],
+    model: Model,
     exon_starts: Vec<u64>,
     exon_ends: Vec<u64>,
     seg_phases: Vec<u8>,
@@ -41,11 +41,13 @@ impl Held {
             )
         };
         let count = counted(outcome)?;
+        let model = model_of(&scalars);
+        let listed = usize::from(model.exon_count);
         let [.., segments, selenocysteines] = scalars.map(|number| number as usize);
         let held = Self {
-            scalars,
-            exon_starts: exon_starts[..scalars[3] as usize].to_vec(),
-            exon_ends: exon_ends[..scalars[3] as usize].to_vec(),
+            model,
+            exon_starts: exon_starts[..listed].to_vec(),
+            exon_ends: exon_ends[..listed].to_vec(),
             seg_phases: phases[..segments].to_vec(),
             seg_exons: exons[..segments].to_vec(),
             seg_starts: starts[..segments].to_vec(),
@@ -56,32 +58,8 @@ impl Held {
     }
 
     pub(crate) fn lent(&self) -> Transcript<'_> {
-        let [
-            id,
-            chromosome,
-            minus,
-            exons,
-            tx_start,
-            tx_end,
-            has_cds,
-            cds_start,
-            cds_end,
-            complete,
-            ..,
-        ] = self.scalars;
         Transcript {
-            id: id as u32,
-            chromosome: chromosome as u16,
-            strand: if minus == 1 {
-                Strand::Minus
-            } else {
-                Strand::Plus
-            },
-            exon_count: exons as u16,
-            tx_start,
-            tx_end,
-            cds: (has_cds == 1).then_some((cds_start, cds_end)),
-            cds_start_complete: complete == 1,
+            model: self.model,
             exon_starts: &self.exon_starts,
             exon_ends: &self.exon_ends,
             seg_phases: &self.seg_phases,
@@ -90,6 +68,24 @@ impl Held {
             seg_ends: &self.seg_ends,
             selenocysteine: &self.selenocysteine,
         }
+    }
+}
+
+/// From the scalars of `vareffect_deck_transcript`.
+#[rustfmt::skip]
+fn model_of(scalars: &[u64; 12]) -> Model {
+    let [id, chromosome, minus, exons, tx_start, tx_end, has_cds, cds_start, cds_end, complete, ..] = *scalars;
+    Model {
+        id: id as u32,
+        chromosome: chromosome as u16,
+        exon_count: exons as u16,
+        tx_start,
+        tx_end,
+        cds_start,
+        cds_end,
+        minus: minus == 1,
+        has_cds: has_cds == 1,
+        start_complete: complete == 1,
     }
 }
 

@@ -19,11 +19,12 @@ pub enum Flank {
 /// Which splice windows of a short intron are reached from the exon.
 ///
 /// ```
-/// use vareffect_proved::{SpliceSpill, Transcript, example};
+/// use vareffect_proved::{Model, SpliceSpill, Transcript, example};
 ///
 /// // An intron of one base, and an insertion before it.
 /// let short = Transcript {
-///     cds: None, tx_end: 161, exon_starts: &[100, 131], exon_ends: &[130, 161],
+///     model: Model { has_cds: false, tx_end: 161, ..example::TRANSCRIPT.model },
+///     exon_starts: &[100, 131], exon_ends: &[130, 161],
 ///     seg_phases: &[], seg_exons: &[], seg_starts: &[], seg_ends: &[], ..example::TRANSCRIPT
 /// };
 /// let spill = SpliceSpill { donor: false, acceptor: true };

@@ -34,6 +34,7 @@ pub mod example;
 mod held;
 mod interval;
 mod listing;
+mod model;
 mod place;
 mod questions;
 mod raw;
@@ -48,10 +49,11 @@ pub use codons::{AminoAcids, Codon, Codons};
 pub use deck::Deck;
 pub use interval::{Flank, Interval, SpliceSpill};
 pub use listing::Listing;
+pub use model::{Model, Strand};
 pub use place::{SpliceSide, VariantLocation};
 pub use refusal::Refusal;
 pub use terms::Terms;
-pub use transcript::{Strand, Transcript};
+pub use transcript::Transcript;
 pub use words::TERM_NAMES;
 
 /// The version of the library's functions that this crate is made for.

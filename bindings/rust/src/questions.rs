@@ -9,6 +9,7 @@ impl Transcript<'_> {
     /// ```
     /// assert!(vareffect_proved::example::TRANSCRIPT.admit().is_ok());
     /// ```
+    #[inline]
     pub fn admit(&self) -> Result<(), Refusal> {
         Refusal::judged(self.admit_number())
     }

@@ -1,6 +1,8 @@
 //! The functions of `libinterface.a` as they are. A slice is a pointer and a
 //! length; the C header `vareffect.h` says what each number is.
 
+use crate::{Call, Model};
+
 /// A number, 0 or a refusal, and a value.
 #[repr(C)]
 pub struct Outcome {
@@ -8,33 +10,10 @@ pub struct Outcome {
     pub value: u64,
 }
 
-/// A transcript without its lists.
-#[repr(C)]
-pub struct Model {
-    pub id: u32,
-    pub chromosome: u16,
-    pub exon_count: u16,
-    pub tx_start: u64,
-    pub tx_end: u64,
-    pub cds_start: u64,
-    pub cds_end: u64,
-    pub minus: bool,
-    pub has_cds: bool,
-    pub start_complete: bool,
-}
-
 #[repr(C)]
 pub struct Window {
     pub chromosome: u16,
     pub first: u64,
-}
-
-#[repr(C)]
-pub struct Call {
-    pub chromosome: u16,
-    pub ref_base: u8,
-    pub alt_base: u8,
-    pub position: u64,
 }
 
 #[rustfmt::skip]

@@ -17,16 +17,18 @@ fn spans(starts: &[u64], ends: &[u64]) -> String {
 
 /// The transcript in the words of deck.txt.
 fn described(t: Transcript) -> String {
-    let strand = format!("{:?}", t.strand).to_lowercase();
-    let start = if t.cds_start_complete {
+    let strand = format!("{:?}", t.model.strand()).to_lowercase();
+    let start = if t.model.start_complete {
         "complete"
     } else {
         "incomplete"
     };
-    let head = format!("transcript {} {} {strand} {start}\n", t.id, t.chromosome);
+    let (id, chromosome) = (t.model.id, t.model.chromosome);
+    let head = format!("transcript {id} {chromosome} {strand} {start}\n");
     let exons = format!("exons{}\n", spans(t.exon_starts, t.exon_ends));
     let cds = t
-        .cds
+        .model
+        .cds()
         .map(|(start, end)| format!("cds {start}-{end} {}\n", t.seg_phases[0]));
     let bases = t
         .selenocysteine
@@ -45,13 +47,13 @@ fn transcripts() {
     assert_eq!(text.lines().collect::<Vec<&str>>(), due);
     for t in deck.transcripts() {
         assert_eq!(t.admit(), Ok(()));
-        assert_eq!(t.tx_start, *t.exon_starts.iter().min().unwrap());
-        assert_eq!(t.tx_end, *t.exon_ends.iter().max().unwrap());
-        assert_eq!(usize::from(t.exon_count), t.exon_ends.len());
+        assert_eq!(t.model.tx_start, *t.exon_starts.iter().min().unwrap());
+        assert_eq!(t.model.tx_end, *t.exon_ends.iter().max().unwrap());
+        assert_eq!(usize::from(t.model.exon_count), t.exon_ends.len());
         // Admission judges the segments, with 12: they are the exons cut to the CDS.
-        assert_eq!(t.cds.is_some(), !t.seg_ends.is_empty());
+        assert_eq!(t.model.has_cds, !t.seg_ends.is_empty());
     }
-    let ids: Vec<u32> = deck.transcripts().map(|t| t.id).collect();
+    let ids: Vec<u32> = deck.transcripts().map(|t| t.model.id).collect();
     assert_eq!(Deck::ids(DECK), Ok(ids));
 }
 
@@ -61,7 +63,7 @@ fn every_kind_has_its_name() {
     let around: Vec<u64> = (14_000..34_000).collect();
     let mut names = BTreeSet::new();
     for t in deck.transcripts() {
-        for place in t.places(t.chromosome, &around).unwrap() {
+        for place in t.places(t.model.chromosome, &around).unwrap() {
             let place = place.unwrap();
             assert_eq!(format!("{place:?}").split(' ').next(), Some(place.name()));
             names.insert(place.name());

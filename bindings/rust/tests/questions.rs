@@ -7,8 +7,11 @@ const LINES: &str = include_str!("../../../crates/example_calls/stdout");
 
 /// The same exons without CDS on minus.
 const NON_CODING: Transcript = Transcript {
-    strand: Strand::Minus,
-    cds: None,
+    model: Model {
+        minus: true,
+        has_cds: false,
+        ..TRANSCRIPT.model
+    },
     exon_starts: &[160, 100],
     exon_ends: &[190, 130],
     seg_phases: &[],
@@ -120,10 +123,13 @@ fn intervals() {
     assert_eq!(flank(6_000, 6_001), Flank::Far);
     // An intron of one base.
     let short = Transcript {
-        tx_end: 161,
+        model: Model {
+            tx_end: 161,
+            minus: false,
+            ..NON_CODING.model
+        },
         exon_starts: &[100, 131],
         exon_ends: &[130, 161],
-        strand: Strand::Plus,
         ..NON_CODING
     };
     let held = short.interval(1, 130, 131).unwrap();

@@ -14,20 +14,22 @@ fn due(number: u8) -> Result<(), Refusal> {
 #[test]
 fn transcripts() {
     let t = TRANSCRIPT;
+    let m = t.model;
+    let with = |model| Transcript { model, ..t };
     let cases = [
         (0, t),
-        (1, Transcript { exon_count: 3, ..t }),
+        (1, with(Model { exon_count: 3, ..m })),
         (1, Transcript { seg_ends: &[130], ..t }),
-        (2, Transcript { chromosome: 26, ..t }),
-        (3, Transcript { strand: Strand::Minus, ..t }),
-        (4, Transcript { tx_end: 191, ..t }),
-        (5, Transcript { cds: None, ..t }),
+        (2, with(Model { chromosome: 26, ..m })),
+        (3, with(Model { minus: true, ..m })),
+        (4, with(Model { tx_end: 191, ..m })),
+        (5, with(Model { has_cds: false, ..m })),
         (6, Transcript { seg_phases: &[0, 3], ..t }),
         (7, Transcript { seg_phases: &[1, 1], ..t }),
         (8, Transcript { seg_exons: &[0, 2], ..t }),
         (9, Transcript { seg_exons: &[1, 1], ..t }),
-        (10, Transcript { cds: Some((140, 170)), ..t }),
-        (11, Transcript { cds: Some((110, 150)), ..t }),
+        (10, with(Model { cds_start: 140, ..m })),
+        (11, with(Model { cds_end: 150, ..m })),
         (12, Transcript { seg_ends: &[130, 169], ..t }),
         (13, Transcript { selenocysteine: &[109], ..t }),
     ];
@@ -70,7 +72,7 @@ fn calls() {
     assert_eq!(asked(Window { first: 6_000, ..WINDOW }, 6_000, b'A', b'C'), 19);
     let narrow = Window { first: 111, bases: &WINDOW.bases[11..12], ..WINDOW };
     assert_eq!(asked(narrow, 111, b'T', b'C'), 21);
-    let mitochondrial = Transcript { chromosome: 25, ..TRANSCRIPT };
+    let mitochondrial = Transcript { model: Model { chromosome: 25, ..TRANSCRIPT.model }, ..TRANSCRIPT };
     let call = Call { chromosome: 25, position: 111, ref_base: b'T', alt_base: b'C' };
     let window = Window { chromosome: 25, ..WINDOW };
     assert_eq!(mitochondrial.call(window, call), Err(Refusal::new(20)));
