@@ -1,10 +1,13 @@
-/* Every field of the answers by its name, refused answers, and empty lists that are NULL. Prints what differs. */
+/* Every field of the answers by its name, refusals that leave an answer as it was, and empty lists that are NULL. Prints what
+   differs. */
 #include "vareffect.h"
 #include "vareffect_words.h"
 
 #include <inttypes.h>
 #include <stdio.h>
-#include <stdlib.h>
+#include <string.h>
+
+enum { PAINT = 0xa5 };
 
 static int failed;
 
@@ -44,6 +47,7 @@ static void check_place(uint64_t at, int64_t kind, int64_t mark, int64_t index, 
 static void check_interval(uint64_t start, uint64_t end, int64_t side, int64_t distance, int64_t held, int64_t intron, int64_t donor, int64_t acceptor) {
   VareffectIntervalAnswer a;
   SAME(vareffect_ask_interval(&coding, 1, start, end, &a), 0);
+  SAME(a.refusal, 0);
   SAME(a.side, side);
   SAME(a.distance, distance);
   SAME(a.in_short_intron, held);
@@ -52,44 +56,87 @@ static void check_interval(uint64_t start, uint64_t end, int64_t side, int64_t d
   SAME(a.acceptor_spill, acceptor);
 }
 
+static const VareffectBases empty = {.window = {.chromosome = 1, .first = 100}};
+static const VareffectCall call = {.chromosome = 1, .ref_base = 'A', .alt_base = 'C', .position = 111};
+
+/* A single call is answered whole, as in a list. */
+static void check_call(void) {
+  uint8_t bases[140];
+  VareffectCallAnswer a, listed;
+  memset(bases, 'A', sizeof bases);
+  memset(&a, PAINT, sizeof a);
+  const VareffectBases window = {empty.window, bases, sizeof bases};
+  SAME(vareffect_ask_call(&coding, &window, call, &a), 0);
+  SAME(a.place.refusal, 0);
+  SAME(a.terms, 1 << 10);
+  SAME(vareffect_ask_calls(&coding, &window, &call.chromosome, &call.position, &call.ref_base, &call.alt_base, 1, &listed), 0);
+  SAME(memcmp(&a, &listed, sizeof a), 0);
+}
+
+static bool painted(const void *bytes, size_t len) {
+  for (size_t i = 0; i < len; i++)
+    if (((const uint8_t *)bytes)[i] != PAINT)
+      return false;
+  return true;
+}
+
+/* A refusal leaves the answer as it was. */
 static void check_refused(void) {
-  static const VareffectPlaceAnswer no_place = {.refusal = 14};
-  static const VareffectCallAnswer no_call = {.place = {.refusal = 17}};
-  static const VareffectIntervalAnswer no_interval = {.refusal = 15};
-  const VareffectBases empty = {.window = {.chromosome = 1, .first = 100}};
-  const VareffectCall call = {.chromosome = 1, .ref_base = 'A', .alt_base = 'C', .position = 111};
-  VareffectTranscript none = {.model = coding.model};
-  VareffectPlaceAnswer place[2];
-  VareffectCallAnswer answer;
+  const VareffectTranscript none = {.model = coding.model};
+  const uint16_t chromosomes[] = {1, 1};
+  VareffectPlaceAnswer places[2];
+  VareffectCallAnswer calls[2];
   VareffectIntervalAnswer interval;
-  SAME(vareffect_ask_place(&coding, 2, 111, 112, place), 14);
-  SAME(memcmp(place, &no_place, sizeof no_place), 0);
-  SAME(vareffect_ask_call(&coding, &empty, call, &answer), 17);
-  SAME(memcmp(&answer, &no_call, sizeof no_call), 0);
-  SAME(vareffect_ask_interval(&coding, 1, 112, 111, &interval), 15);
-  SAME(memcmp(&interval, &no_interval, sizeof no_interval), 0);
+  memset(places, PAINT, sizeof places);
+  memset(calls, PAINT, sizeof calls);
+  memset(&interval, PAINT, sizeof interval);
   SAME(vareffect_ask_admit(&none), 1);
-  SAME(vareffect_ask_places(&none, 1, seg_starts, 2, place), 1);
-  SAME(place[1].refusal, 1);
-  SAME(place[1].kind, 0);
-  SAME(vareffect_ask_calls(&none, &empty, exons, seg_starts, phases, phases, 1, &answer), 1);
-  SAME(answer.place.refusal, 1);
+  SAME(vareffect_ask_place(&none, 1, 111, 112, places), 1);
+  SAME(vareffect_ask_place(&coding, 2, 111, 112, places), 14);
+  SAME(vareffect_ask_places(&none, 1, seg_starts, 2, places), 1);
+  SAME(painted(places, sizeof places), 1);
+  SAME(vareffect_ask_call(&none, &empty, call, calls), 1);
+  SAME(vareffect_ask_call(&coding, &empty, call, calls), 17);
+  SAME(vareffect_ask_calls(&none, &empty, chromosomes, seg_starts, phases, phases, 2, calls), 1);
+  SAME(painted(calls, sizeof calls), 1);
+  SAME(vareffect_ask_interval(&none, 1, 111, 112, &interval), 1);
+  SAME(vareffect_ask_interval(&coding, 1, 112, 111, &interval), 15);
+  SAME(painted(&interval, sizeof interval), 1);
+}
+
+/* A refused question of an answered list has its number with zeros behind it. */
+static void check_refused_in_list(void) {
+  static const VareffectPlaceAnswer no_place = {.refusal = 15};
+  static const VareffectCallAnswer no_call = {.place = {.refusal = 17}};
+  const uint64_t positions[] = {111, UINT64_MAX};
+  VareffectPlaceAnswer places[2];
+  VareffectCallAnswer answer;
+  memset(places, PAINT, sizeof places);
+  memset(&answer, PAINT, sizeof answer);
+  SAME(vareffect_ask_places(&coding, 1, positions, 2, places), 0);
+  SAME(places[0].refusal, 0);
+  SAME(memcmp(&places[1], &no_place, sizeof no_place), 0);
+  SAME(vareffect_ask_calls(&coding, &empty, &call.chromosome, &call.position, &call.ref_base, &call.alt_base, 1, &answer), 0);
+  SAME(memcmp(&answer, &no_call, sizeof no_call), 0);
+}
+
+static void check_empty_lists(void) {
   SAME(vareffect_lent(NULL, 0) != NULL, 1);
-  SAME(vareffect_lent(place, 2) == place, 1);
+  SAME(vareffect_lent(starts, 2) == starts, 1);
   SAME(vareffect_ask_places(&coding, 1, NULL, 0, NULL), 0);
   SAME(vareffect_ask_calls(&coding, &empty, NULL, NULL, NULL, NULL, 0, NULL), 0);
 }
 
 static void check_outcomes(void) {
   static VareffectDeckTranscript held;
-  const VareffectBases empty = {.window = {.chromosome = 1, .first = 100}};
-  const VareffectCall call = {.chromosome = 1, .ref_base = 'A', .alt_base = 'C', .position = 111};
   uint8_t line[VAREFFECT_LINE] = {0};
   VareffectOutcome o = vareffect_ask_line(&coding, &empty, call, 9, line);
   SAME(o.number, 0);
   SAME(o.value, 7);
   SAME(strcmp((char *)line, "9 7 17\n"), 0);
+  memset(&held, PAINT, sizeof held);
   SAME(vareffect_read_transcript(NULL, 0, 0, &held).number, 22);
+  SAME(painted(&held, sizeof held), 1);
   SAME(vareffect_abi(), VAREFFECT_ABI);
 }
 
@@ -128,7 +175,10 @@ int main(void) {
   check_interval(245, 246, 2, 6, 0, 0, 0, 0);
   check_interval(189, 190, 0, 0, 0, 0, 0, 1);
   check_interval(191, 192, 0, 0, 0, 0, 1, 0);
+  check_call();
   check_refused();
+  check_refused_in_list();
+  check_empty_lists();
   check_outcomes();
   check_words();
   return failed != 0;

@@ -4,6 +4,7 @@
 
 #include <inttypes.h>
 #include <stdio.h>
+#include <string.h>
 
 /* `number` or `number/total`, or `-` where there is none. */
 static void print_count(int64_t number, int64_t total) {

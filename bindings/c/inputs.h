@@ -3,6 +3,7 @@
 
 #include <stdio.h>
 #include <stdlib.h>
+#include <string.h>
 
 enum { EXONS = 512, BASES = 64, POSITIONS = 1024 };
 

@@ -46,10 +46,11 @@ int main(int count, char **words) {
     vareffect_read_transcript(deck, deck_len, i, &held);
     VareffectTranscript t = vareffect_lend(&held);
     printf("%u %s: ", t.model.id, vareffect_ask_admit(&t) == 0 ? "admitted" : "refused");
-    if ((refusal = vareffect_ask_call(&t, &window, call, &answer)) != 0)
-      printf("number %d, %s", (int)refusal, vareffect_refusal_cause(refusal));
-    else
-      printf("%s", vareffect_place_name((uint64_t)answer.place.kind));
+    if ((refusal = vareffect_ask_call(&t, &window, call, &answer)) != 0) {
+      printf("number %d, %s\n", (int)refusal, vareffect_refusal_cause(refusal));
+      continue;
+    }
+    printf("%s", vareffect_place_name((uint64_t)answer.place.kind));
     for (uint64_t rank = 1; rank <= 28; rank++)
       if (answer.terms >> (rank - 1) & 1)
         printf(" %s", vareffect_term_name(rank));

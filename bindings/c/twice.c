@@ -6,6 +6,8 @@
 #include "vareffect_ask.h"
 #include "vareffect_words.h"
 
+#include <string.h>
+
 uint64_t other_file(const char *term);
 
 #ifdef MAIN

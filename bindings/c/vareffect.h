@@ -19,7 +19,6 @@
 #include <stdbool.h>
 #include <stddef.h>
 #include <stdint.h>
-#include <string.h>
 
 /* The version of what follows. Compare it once with the library's:
    if (vareffect_abi() != VAREFFECT_ABI) the header is another release's. */

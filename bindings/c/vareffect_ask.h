@@ -1,9 +1,11 @@
 /* The questions of vareffect.h with structs instead of lists and words. Include
    vareffect.h, which includes this.
 
-   Every function returns 0 or the refusal's number. An answer is written whole:
-   where its question is refused it is zeros with the refusal's number in front.
-   A list of length 0 may be NULL. What is written may overlap nothing else. */
+   Every question returns 0 and writes the whole answer, or returns the refusal's
+   number and leaves the answer as it was. So the answer to a single question has
+   `refusal` 0. In a list each answer has its own, and where that is not 0 the
+   rest of the answer is 0. A list of length 0 may be NULL. What is written may
+   overlap nothing else. */
 #ifndef VAREFFECT_ASK_H
 #define VAREFFECT_ASK_H
 
@@ -34,9 +36,7 @@ static inline uint8_t vareffect_ask_admit(const VareffectTranscript *t) {
 /* Where the base at start falls; [start, end) is not empty. */
 static inline uint8_t vareffect_ask_place(const VareffectTranscript *t, uint16_t chromosome,
                                           uint64_t start, uint64_t end, VareffectPlaceAnswer *answer) {
-  memset(answer, 0, sizeof *answer);
-  answer->refusal = vareffect_place(chromosome, start, end, t->model, VAREFFECT_LENT_LISTS(t), (int64_t *)answer);
-  return (uint8_t)answer->refusal;
+  return vareffect_place(chromosome, start, end, t->model, VAREFFECT_LENT_LISTS(t), (int64_t *)answer);
 }
 
 /* Where each of count bases falls; the number is the transcript's refusal. */
@@ -44,22 +44,15 @@ static inline uint8_t vareffect_ask_places(const VareffectTranscript *t, uint16_
                                            const uint64_t *positions, size_t count,
                                            VareffectPlaceAnswer *answers) {
   int64_t none = 0;
-  uint8_t refusal = vareffect_places(chromosome, VAREFFECT_LENT(uint64_t, positions, count), t->model,
-                                     VAREFFECT_LENT_LISTS(t), count == 0 ? &none : (int64_t *)answers, 8 * count);
-  for (size_t i = 0; refusal != 0 && i < count; i++) {
-    memset(&answers[i], 0, sizeof answers[i]);
-    answers[i].refusal = refusal;
-  }
-  return refusal;
+  return vareffect_places(chromosome, VAREFFECT_LENT(uint64_t, positions, count), t->model,
+                          VAREFFECT_LENT_LISTS(t), count == 0 ? &none : (int64_t *)answers, 8 * count);
 }
 
 /* What a call does. */
 static inline uint8_t vareffect_ask_call(const VareffectTranscript *t, const VareffectBases *w,
                                          VareffectCall call, VareffectCallAnswer *answer) {
-  memset(answer, 0, sizeof *answer);
-  answer->place.refusal = vareffect_call(w->window, VAREFFECT_LENT(uint8_t, w->bases, w->len), call, t->model,
-                                         VAREFFECT_LENT_LISTS(t), (int64_t *)answer);
-  return (uint8_t)answer->place.refusal;
+  return vareffect_call(w->window, VAREFFECT_LENT(uint8_t, w->bases, w->len), call, t->model,
+                        VAREFFECT_LENT_LISTS(t), (int64_t *)answer);
 }
 
 /* What each of count calls does, given as four lists; the number is the transcript's refusal. */
@@ -68,24 +61,17 @@ static inline uint8_t vareffect_ask_calls(const VareffectTranscript *t, const Va
                                           const uint8_t *refs, const uint8_t *alts, size_t count,
                                           VareffectCallAnswer *answers) {
   int64_t none = 0;
-  uint8_t refusal = vareffect_calls(
+  return vareffect_calls(
       w->window, VAREFFECT_LENT(uint8_t, w->bases, w->len), VAREFFECT_LENT(uint16_t, chromosomes, count),
       VAREFFECT_LENT(uint64_t, positions, count), VAREFFECT_LENT(uint8_t, refs, count),
       VAREFFECT_LENT(uint8_t, alts, count), t->model, VAREFFECT_LENT_LISTS(t),
       count == 0 ? &none : (int64_t *)answers, 20 * count);
-  for (size_t i = 0; refusal != 0 && i < count; i++) {
-    memset(&answers[i], 0, sizeof answers[i]);
-    answers[i].place.refusal = refusal;
-  }
-  return refusal;
 }
 
 /* About [start, end); start equal to end is an insertion before start. */
 static inline uint8_t vareffect_ask_interval(const VareffectTranscript *t, uint16_t chromosome,
                                              uint64_t start, uint64_t end, VareffectIntervalAnswer *answer) {
-  memset(answer, 0, sizeof *answer);
-  answer->refusal = vareffect_interval(chromosome, start, end, t->model, VAREFFECT_LENT_LISTS(t), (int64_t *)answer);
-  return (uint8_t)answer->refusal;
+  return vareffect_interval(chromosome, start, end, t->model, VAREFFECT_LENT_LISTS(t), (int64_t *)answer);
 }
 
 /* The lister's line of a call: 0 and its length, or 28 and 0. */
