@@ -110,9 +110,11 @@ static void ask_list(Asked *a) {
 static const struct Question {
   const char *name;
   void (*ask)(Asked *);
-} questions[] = {{"vareffect_abi", ask_abi}, {"vareffect_admit", ask_admit}, {"vareffect_place", ask_place},
-                 {"vareffect_places", ask_places}, {"vareffect_call", ask_call}, {"vareffect_calls", ask_calls},
-                 {"vareffect_interval", ask_interval}, {"vareffect_line", ask_line},
-                 {"vareffect_check_deck", ask_check_deck}, {"vareffect_deck_ids", ask_deck_ids},
-                 {"vareffect_deck_transcript", ask_deck_transcript}, {"vareffect_list", ask_list}};
+  size_t stack; /* the bytes that the header states */
+} questions[] = {{"vareffect_abi", ask_abi, VAREFFECT_STACK}, {"vareffect_admit", ask_admit, VAREFFECT_STACK},
+                 {"vareffect_place", ask_place, VAREFFECT_STACK}, {"vareffect_places", ask_places, VAREFFECT_STACK},
+                 {"vareffect_call", ask_call, VAREFFECT_STACK}, {"vareffect_calls", ask_calls, VAREFFECT_STACK},
+                 {"vareffect_interval", ask_interval, VAREFFECT_STACK}, {"vareffect_line", ask_line, VAREFFECT_STACK},
+                 {"vareffect_check_deck", ask_check_deck, VAREFFECT_STACK}, {"vareffect_deck_ids", ask_deck_ids, VAREFFECT_STACK},
+                 {"vareffect_deck_transcript", ask_deck_transcript, VAREFFECT_STACK}, {"vareffect_list", ask_list, VAREFFECT_LIST_STACK}};
 enum { QUESTIONS = sizeof questions / sizeof *questions };

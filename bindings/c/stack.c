@@ -1,5 +1,6 @@
-/* stack FOLDER FOLDER: every function of the library on a thread with VAREFFECT_STACK bytes of stack, each in a process of its
-   own. Prints how many bytes each used; fails where one needs more, or refuses. The folders have deck.bin, window.bin and calls. */
+/* stack FOLDER FOLDER: every function of the library on a thread with as many bytes of stack as the header states for it, each in
+   a process of its own. Prints how many bytes each used; fails where one needs more, or refuses. The folders have deck.bin,
+   window.bin and calls. */
 #define _GNU_SOURCE
 #include "questions.h"
 
@@ -59,11 +60,11 @@ int main(int count, char **words) {
   asked = new_asked(0);
   for (int i = 0; i < QUESTIONS; i++) {
     question = &questions[i];
-    if (status_with(VAREFFECT_STACK) != 0) {
+    if (status_with(question->stack) != 0) {
       failed++;
-      printf("%s: FAILED with %d bytes of stack; with sixteen times as many:\n", question->name, VAREFFECT_STACK);
+      printf("%s: FAILED with %zu bytes of stack; with sixteen times as many:\n", question->name, question->stack);
       fflush(stdout);
-      status_with((size_t)16 * VAREFFECT_STACK);
+      status_with(16 * question->stack);
     }
   }
   return failed != 0;

@@ -11,8 +11,9 @@
    Threads. Nothing is global and nothing is kept after a call: all functions
    may be called from any number of threads at once.
 
-   Stack. A call needs at most VAREFFECT_STACK bytes of the caller's stack,
-   beside what the caller itself keeps there. */
+   Stack. Beside what the caller itself keeps there, vareffect_list needs at most
+   VAREFFECT_LIST_STACK bytes of the caller's stack, and every other function at
+   most VAREFFECT_STACK. */
 #ifndef VAREFFECT_H
 #define VAREFFECT_H
 
@@ -23,7 +24,8 @@
 /* The version of what follows. Compare it once with the library's:
    if (vareffect_abi() != VAREFFECT_ABI) the header is another release's. */
 #define VAREFFECT_ABI 2
-#define VAREFFECT_STACK 196608
+#define VAREFFECT_STACK 131072
+#define VAREFFECT_LIST_STACK 196608
 /* No printed line is longer, newline included. */
 #define VAREFFECT_LINE 1553
 
@@ -212,7 +214,7 @@ VareffectOutcome vareffect_deck_transcript(const uint8_t *bytes, size_t bytes_le
    with the cursor {0, 0, 0}; it is moved on, and its third word is 1 with the
    last piece. 28 and 0 where not even the next line fits (VAREFFECT_LINE bytes
    hold any). A refused file is a line "0 record number". Each call reads the
-   deck anew: lend a large buffer. */
+   deck anew: lend a large buffer. Needs VAREFFECT_LIST_STACK bytes of stack. */
 VareffectOutcome vareffect_list(const uint8_t *deck, size_t deck_len, const uint8_t *window,
                                 size_t window_len, const uint8_t *calls, size_t calls_len,
                                 uint64_t cursor[3], uint8_t *out, size_t out_len);

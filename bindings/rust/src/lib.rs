@@ -23,7 +23,9 @@
 //!
 //! Answers have the cases and field names of the `vareffect` crate, whose
 //! answers they are proved and compared to be. All functions may be called from
-//! any number of threads at once; each needs at most [`STACK`] bytes of stack.
+//! any number of threads at once. The library needs at most [`STACK`] bytes of
+//! stack, for a listing [`LIST_STACK`]; with 64 KiB more there is room for the
+//! frames of this crate too.
 
 mod answer;
 mod ask;
@@ -63,18 +65,34 @@ pub use words::TERM_NAMES;
 /// ```
 pub const ABI: u64 = 2;
 
-/// The most stack, in bytes, that a function of the library needs.
+/// The most stack, in bytes, that a function of the library needs, other than
+/// that of a [`Listing`].
 ///
 /// ```
 /// use std::thread;
-/// use vareffect_proved::{STACK, example};
+/// use vareffect_proved::{Deck, STACK, example};
 ///
-/// // The thread's own frames need some too.
+/// // 64 KiB more for the frames of this crate and of the thread.
 /// let thread = thread::Builder::new().stack_size(STACK + 65_536);
-/// let asked = thread.spawn(|| example::TRANSCRIPT.admit()).unwrap();
-/// assert_eq!(asked.join().unwrap(), Ok(()));
+/// let read = thread.spawn(|| Deck::read(&example::DECK).is_ok()).unwrap();
+/// assert!(read.join().unwrap());
 /// ```
-pub const STACK: usize = 196_608;
+pub const STACK: usize = 131_072;
+
+/// The most stack, in bytes, that a piece of a [`Listing`] needs.
+///
+/// ```
+/// use std::thread;
+/// use vareffect_proved::{LIST_STACK, Listing, example};
+///
+/// let listing = Listing::of_files(&example::DECK, &example::WINDOW_FILE, b"9\n");
+/// thread::scope(|scope| {
+///     let thread = thread::Builder::new().stack_size(LIST_STACK + 65_536);
+///     let listed = thread.spawn_scoped(scope, || listing.whole()).unwrap();
+///     assert_eq!(listed.join().unwrap(), b"1 0 26\n");
+/// });
+/// ```
+pub const LIST_STACK: usize = 196_608;
 
 /// The version of the functions of the library that is linked; [`ABI`] where
 /// both are of one release.

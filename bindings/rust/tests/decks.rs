@@ -3,7 +3,8 @@
 use std::collections::BTreeSet;
 use std::fs;
 use std::path::Path;
-use vareffect_proved::{Deck, Listing, Refusal, Transcript, Window};
+use std::thread;
+use vareffect_proved::{Deck, LIST_STACK, Listing, Refusal, STACK, Transcript, Window};
 
 const DECK: &[u8] = include_bytes!("../../../demo/panel/deck.bin");
 const WINDOW: &[u8] = include_bytes!("../../../demo/panel/window.bin");
@@ -113,15 +114,25 @@ fn listing() {
     assert_eq!(pieces.concat(), deck.list(WINDOW, &many).whole());
 }
 
+/// On a thread with the stack that the crate states: the library's and 64 KiB.
+fn on_stack<T: Send>(size: usize, work: impl FnOnce() -> T + Send) -> T {
+    thread::scope(|scope| {
+        let thread = thread::Builder::new().stack_size(size + 65_536);
+        let asked = thread.spawn_scoped(scope, work).unwrap();
+        asked.join().unwrap()
+    })
+}
+
 /// Decks with as many transcripts, and with as many exons, as fit into 65,536 bytes.
 #[test]
 fn full_decks() {
     for (name, transcripts) in [("full-deck-transcripts", 2_047), ("full-deck-exons", 8)] {
         let folder = Path::new(env!("CARGO_MANIFEST_DIR")).join("../../tests/cases");
         let read = |file| fs::read(folder.join(name).join(file)).unwrap();
-        let deck = Deck::read(&read("deck.bin")).unwrap();
+        let deck = on_stack(STACK, || Deck::read(&read("deck.bin")).unwrap());
         assert_eq!(deck.transcripts().len(), transcripts);
-        let lines = deck.list(&read("window.bin"), &read("calls")).whole();
+        let (window, calls) = (read("window.bin"), read("calls"));
+        let lines = on_stack(LIST_STACK, || deck.list(&window, &calls).whole());
         assert!(lines == read("stdout"), "{name}");
     }
 }

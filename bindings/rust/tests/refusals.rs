@@ -102,5 +102,6 @@ fn constants() {
     let header = include_str!("../../c/vareffect.h");
     assert!(header.contains(&format!("#define VAREFFECT_ABI {ABI}\n")));
     assert!(header.contains(&format!("#define VAREFFECT_STACK {STACK}\n")));
+    assert!(header.contains(&format!("#define VAREFFECT_LIST_STACK {LIST_STACK}\n")));
     assert_eq!(abi(), ABI);
 }
