@@ -35,8 +35,9 @@ extern "C" {
 
 /* ---- Questions and answers ---- */
 
-/* A transcript without its lists. A bool is the byte 0 or 1. Without CDS: has_cds
-   false, cds_start and cds_end 0. start_complete: the CDS begins with a whole codon. */
+/* A transcript without its lists. A bool is the byte 0 or 1. Without CDS has_cds
+   is false, and cds_start and cds_end are not read. start_complete: whether the
+   annotation marks the start of the CDS as complete (a GFF3 without cds_start_NF). */
 typedef struct VareffectModel {
   uint32_t id;
   uint16_t chromosome, exon_count;

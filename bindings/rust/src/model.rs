@@ -43,7 +43,8 @@ pub struct Model {
     pub minus: bool,
     /// Whether it has a CDS.
     pub has_cds: bool,
-    /// Whether the CDS begins with a whole start codon.
+    /// Whether the annotation marks the start of the CDS as complete (a GFF3
+    /// without `cds_start_NF`).
     pub start_complete: bool,
 }
 
