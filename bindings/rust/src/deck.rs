@@ -23,8 +23,8 @@ pub struct Deck {
 
 impl Deck {
     /// Reads a deck file. Refused by 1 to 13 and 22 to 25, with the record at fault.
-    /// The library reads the file once for each transcript: half a second for the
-    /// largest deck, of 2,047.
+    /// The library reads the file once for each transcript: a quarter of a second
+    /// for a deck of 2,047, the most that there can be.
     ///
     /// ```
     /// use vareffect_proved::{Deck, Refusal};
