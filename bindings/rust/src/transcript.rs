@@ -2,7 +2,8 @@
 
 use crate::Model;
 
-/// Exons, segments and selenocysteine bases in strand order, a slice for each field.
+/// A transcript: its scalars, then exons, segments and selenocysteine bases in
+/// strand order, a slice for each field.
 ///
 /// ```
 /// use vareffect_proved::{Model, Refusal, Transcript, example};
