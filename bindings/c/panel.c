@@ -37,10 +37,8 @@ int main(int count, char **words) {
   }
   VareffectBases window;
   uint64_t refusal = vareffect_read_window(file, file_len, &window);
-  if (refusal != 0) {
-    printf("window refused, number %d\n", (int)refusal);
-    return refuse(refusal);
-  }
+  if (refusal != 0)
+    return printf("window refused, number %d\n", (int)refusal), refuse(refusal);
   for (uint64_t i = 0; i < deal.value; i++) {
     VareffectCallAnswer answer;
     vareffect_read_transcript(deck, deck_len, i, &held);
