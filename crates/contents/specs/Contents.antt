@@ -97,3 +97,9 @@ Front numbers out = now (out .exit) ≡ stored (now (out .entry)) 0 numbers
 -- a list of the chosen transcript stands there; without one nothing changes
 abbrev pub Put : List Transcript → (Transcript → List ℕ) → Passed → Type 0
 Put ts list out = Front (concat (map list ts)) out
+
+-- all of it: scalars; exon starts and ends; segment phases, exon indexes, starts and ends; selenocysteine bases
+abbrev pub Stored : List Transcript → Passed → Passed → Passed → Passed → Passed → Passed → Passed → Passed → Type 0
+Stored ts scalars starts ends phases indexes firsts lasts bases =
+    Put ts scalarsOf scalars × Put ts exonStarts starts × Put ts exonEnds ends × Put ts segmentPhases phases × Put ts segmentExons indexes
+    × Put ts segmentStarts firsts × Put ts segmentEnds lasts × Put ts basesOf bases

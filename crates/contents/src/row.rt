@@ -15,8 +15,7 @@ ghost use mathlib.Core.Path.{_≡_};
 ghost use lib.ListN.{length};
 ghost use mathlib.Core.List.{[], _∷_};
 ghost use Rattle.deck.specs.code.Table.{part, modelIn, transcriptWasGiven};
-ghost use Rattle.contents.specs.Contents.{scalarWords, scalarsOf, exonStarts, exonEnds, segmentPhases, segmentExons};
-ghost use Rattle.contents.specs.Contents.{segmentStarts, segmentEnds, basesOf, Front, Put};
+ghost use Rattle.contents.specs.Contents.{scalarWords, Front, Stored};
 ghost use Rattle.contents.specs.code.Columns.{Columns};
 
 // Its exons.
@@ -107,8 +106,7 @@ pub(crate) fn store_row(
     requires { ⌜ Columns (now marks) (now numbers) (now starts) (now ends) ⌝ }
     ensures { λ _.
         let t = transcriptWasGiven marks ids numbers starts ends k rows ∷ [] in
-        ⌜ Put t scalarsOf scalars × Put t exonStarts «exon_starts» × Put t exonEnds «exon_ends» × Put t segmentPhases «seg_phases»
-        × Put t segmentExons «seg_exons» × Put t segmentStarts «seg_starts» × Put t segmentEnds «seg_ends» × Put t basesOf selenocysteine ⌝ }
+        ⌜ Stored t scalars «exon_starts» «exon_ends» «seg_phases» «seg_exons» «seg_starts» «seg_ends» selenocysteine ⌝ }
 {
     store_rest(
         marks,

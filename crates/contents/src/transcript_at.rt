@@ -9,8 +9,7 @@ use deck::rows::rows_at;
 ghost use mathlib.Core.Path.{_≡_};
 ghost use lib.ListN.{take, drop};
 ghost use Rattle.deck.specs.code.Table.{tableWasGiven, tableTranscripts};
-ghost use Rattle.contents.specs.Contents.{placed, placeContent, chosen, scalarsOf, exonStarts, exonEnds, segmentPhases, segmentExons};
-ghost use Rattle.contents.specs.Contents.{segmentStarts, segmentEnds, basesOf, Put};
+ghost use Rattle.contents.specs.Contents.{placed, placeContent, chosen, Stored};
 ghost use Rattle.contents.specs.code.Columns.{Columns};
 
 // The transcript at a place of a table, in lent lists.
@@ -35,9 +34,7 @@ fn store_place(
     ensures { λ r.
         let ts = tableTranscripts (tableWasGiven kinds marks ids numbers starts ends) in
         let t = take 1 (drop place ts) in
-        ⌜ (r ≡ placed ts place)
-        × Put t scalarsOf scalars × Put t exonStarts «exon_starts» × Put t exonEnds «exon_ends» × Put t segmentPhases «seg_phases»
-        × Put t segmentExons «seg_exons» × Put t segmentStarts «seg_starts» × Put t segmentEnds «seg_ends» × Put t basesOf selenocysteine ⌝ }
+        ⌜ (r ≡ placed ts place) × Stored t scalars «exon_starts» «exon_ends» «seg_phases» «seg_exons» «seg_starts» «seg_ends» selenocysteine ⌝ }
 {
     let count = count_rows(kinds);
     if count <= place {
@@ -84,8 +81,7 @@ pub fn deck_transcript(
     ensures { λ r. ⌜ r ≡ placeContent (now bytes.entry) place ⌝ }
     ensures { λ _.
         let t = chosen (now bytes.entry) place in
-        ⌜ Put t scalarsOf scalars × Put t exonStarts «exon_starts» × Put t exonEnds «exon_ends» × Put t segmentPhases «seg_phases»
-        × Put t segmentExons «seg_exons» × Put t segmentStarts «seg_starts» × Put t segmentEnds «seg_ends» × Put t basesOf selenocysteine ⌝ }
+        ⌜ Stored t scalars «exon_starts» «exon_ends» «seg_phases» «seg_exons» «seg_starts» «seg_ends» selenocysteine ⌝ }
 {
     let mut kinds = [0u8; 4096];
     let mut marks = [0u8; 4096];

@@ -8,8 +8,7 @@ use words::VareffectOutcome;
 ghost use mathlib.Core.Path.{_≡_};
 ghost use Rattle.common.specs.Stored.{stored};
 ghost use Rattle.deck.specs.Deck.{readDeck};
-ghost use Rattle.contents.specs.Contents.{deckContent, deckIds, placeContent, chosen, scalarsOf, exonStarts, exonEnds, segmentPhases};
-ghost use Rattle.contents.specs.Contents.{segmentExons, segmentStarts, segmentEnds, basesOf, Put};
+ghost use Rattle.contents.specs.Contents.{deckContent, deckIds, placeContent, chosen, Stored};
 ghost use Rattle.interface.specs.Decks.{deckOutcome, contentOutcome};
 
 fn refused(number: u8, record: u16) -> VareffectOutcome
@@ -80,8 +79,7 @@ pub extern "C" fn vareffect_deck_transcript(
     ensures { λ r. ⌜ r ≡ contentOutcome (placeContent (now bytes.entry) place) ⌝ }
     ensures { λ _.
         let t = chosen (now bytes.entry) place in
-        ⌜ Put t scalarsOf scalars × Put t exonStarts «exon_starts» × Put t exonEnds «exon_ends» × Put t segmentPhases «seg_phases»
-        × Put t segmentExons «seg_exons» × Put t segmentStarts «seg_starts» × Put t segmentEnds «seg_ends» × Put t basesOf selenocysteine ⌝ }
+        ⌜ Stored t scalars «exon_starts» «exon_ends» «seg_phases» «seg_exons» «seg_starts» «seg_ends» selenocysteine ⌝ }
 {
     content_outcome(deck_transcript(
         bytes,

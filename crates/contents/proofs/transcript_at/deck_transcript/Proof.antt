@@ -48,14 +48,14 @@ returns-2 c =
     let one = accepted-chosen d h e (a .place) in (
       accepted-place d h e (a .place) (c .store-place .ensures .0),
       (
-        put-same scalarsOf (now (a .scalars)) one (c .store-place .ensures .1),
-        put-same exonStarts (now (a .exon-starts)) one (c .store-place .ensures .2),
-        put-same exonEnds (now (a .exon-ends)) one (c .store-place .ensures .3),
-        put-same segmentPhases (now (a .seg-phases)) one (c .store-place .ensures .4),
-        put-same segmentExons (now (a .seg-exons)) one (c .store-place .ensures .5),
-        put-same segmentStarts (now (a .seg-starts)) one (c .store-place .ensures .6),
-        put-same segmentEnds (now (a .seg-ends)) one (c .store-place .ensures .7),
-        put-same basesOf (now (a .selenocysteine)) one (c .store-place .ensures .8),
+        put-same scalarsOf (now (a .scalars)) one (c .store-place .ensures .1 .0),
+        put-same exonStarts (now (a .exon-starts)) one (c .store-place .ensures .1 .1),
+        put-same exonEnds (now (a .exon-ends)) one (c .store-place .ensures .1 .2),
+        put-same segmentPhases (now (a .seg-phases)) one (c .store-place .ensures .1 .3),
+        put-same segmentExons (now (a .seg-exons)) one (c .store-place .ensures .1 .4),
+        put-same segmentStarts (now (a .seg-starts)) one (c .store-place .ensures .1 .5),
+        put-same segmentEnds (now (a .seg-ends)) one (c .store-place .ensures .1 .6),
+        put-same basesOf (now (a .selenocysteine)) one (c .store-place .ensures .1 .7),
       ),
     )
 

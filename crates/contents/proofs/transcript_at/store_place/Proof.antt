@@ -18,14 +18,16 @@ returns c =
     let t : DeckTable = record { kinds = now (a .kinds); marks = now (a .marks); ids = now (a .ids); numbers = now (a .numbers); starts = now (a .starts); ends = now (a .ends) } in
     let none = none-there t (a .place) (c .before .count-rows .ensures) (c .if1 .taken) in (
       none-placed t (a .place) (c .before .count-rows .ensures) (c .if1 .taken),
-      put-none (take 1 (drop (a .place) (tableTranscripts t))) scalarsOf (now (a .scalars)) none,
-      put-none (take 1 (drop (a .place) (tableTranscripts t))) exonStarts (now (a .exon-starts)) none,
-      put-none (take 1 (drop (a .place) (tableTranscripts t))) exonEnds (now (a .exon-ends)) none,
-      put-none (take 1 (drop (a .place) (tableTranscripts t))) segmentPhases (now (a .seg-phases)) none,
-      put-none (take 1 (drop (a .place) (tableTranscripts t))) segmentExons (now (a .seg-exons)) none,
-      put-none (take 1 (drop (a .place) (tableTranscripts t))) segmentStarts (now (a .seg-starts)) none,
-      put-none (take 1 (drop (a .place) (tableTranscripts t))) segmentEnds (now (a .seg-ends)) none,
-      put-none (take 1 (drop (a .place) (tableTranscripts t))) basesOf (now (a .selenocysteine)) none,
+      (
+        put-none (take 1 (drop (a .place) (tableTranscripts t))) scalarsOf (now (a .scalars)) none,
+        put-none (take 1 (drop (a .place) (tableTranscripts t))) exonStarts (now (a .exon-starts)) none,
+        put-none (take 1 (drop (a .place) (tableTranscripts t))) exonEnds (now (a .exon-ends)) none,
+        put-none (take 1 (drop (a .place) (tableTranscripts t))) segmentPhases (now (a .seg-phases)) none,
+        put-none (take 1 (drop (a .place) (tableTranscripts t))) segmentExons (now (a .seg-exons)) none,
+        put-none (take 1 (drop (a .place) (tableTranscripts t))) segmentStarts (now (a .seg-starts)) none,
+        put-none (take 1 (drop (a .place) (tableTranscripts t))) segmentEnds (now (a .seg-ends)) none,
+        put-none (take 1 (drop (a .place) (tableTranscripts t))) basesOf (now (a .selenocysteine)) none,
+      ),
     )
 
 row-of-requires : tie.Need-row-of-requires
@@ -43,14 +45,16 @@ returns-2 c =
     let t : DeckTable = record { kinds = now (a .kinds); marks = now (a .marks); ids = now (a .ids); numbers = now (a .numbers); starts = now (a .starts); ends = now (a .ends) } in
     let one = one-there t (a .place) (c .before .before .before .before .before .before .before .before .before .before .before .before .count-rows .ensures) (c .before .before .before .before .before .before .before .before .before .before .before .if1 .left) (c .before .before .before .before .before .before .before .before .before .before .row-of .ensures .0) (c .before .before .before .before .before .before .before .before .before .before .row-of .ensures .1) (c .before .before .before .before .before .before .before .before .before .rows-at .ensures) in (
       one-placed t (a .place) (c .before .before .before .before .before .before .before .before .before .before .before .before .count-rows .ensures) (c .before .before .before .before .before .before .before .before .before .before .before .if1 .left),
-      put-same scalarsOf (now (a .scalars)) one (c .store-row .ensures .0),
-      put-same exonStarts (now (a .exon-starts)) one (c .store-row .ensures .1),
-      put-same exonEnds (now (a .exon-ends)) one (c .store-row .ensures .2),
-      put-same segmentPhases (now (a .seg-phases)) one (c .store-row .ensures .3),
-      put-same segmentExons (now (a .seg-exons)) one (c .store-row .ensures .4),
-      put-same segmentStarts (now (a .seg-starts)) one (c .store-row .ensures .5),
-      put-same segmentEnds (now (a .seg-ends)) one (c .store-row .ensures .6),
-      put-same basesOf (now (a .selenocysteine)) one (c .store-row .ensures .7),
+      (
+        put-same scalarsOf (now (a .scalars)) one (c .store-row .ensures .0),
+        put-same exonStarts (now (a .exon-starts)) one (c .store-row .ensures .1),
+        put-same exonEnds (now (a .exon-ends)) one (c .store-row .ensures .2),
+        put-same segmentPhases (now (a .seg-phases)) one (c .store-row .ensures .3),
+        put-same segmentExons (now (a .seg-exons)) one (c .store-row .ensures .4),
+        put-same segmentStarts (now (a .seg-starts)) one (c .store-row .ensures .5),
+        put-same segmentEnds (now (a .seg-ends)) one (c .store-row .ensures .6),
+        put-same basesOf (now (a .selenocysteine)) one (c .store-row .ensures .7),
+      ),
     )
 
 pub store-place-spec : {M : Type 1} → statement M
