@@ -34,7 +34,8 @@ fn store_place(
     ensures { λ r.
         let ts = tableTranscripts (tableWasGiven kinds marks ids numbers starts ends) in
         let t = take 1 (drop place ts) in
-        ⌜ (r ≡ placed ts place) × Stored t scalars «exon_starts» «exon_ends» «seg_phases» «seg_exons» «seg_starts» «seg_ends» selenocysteine ⌝ }
+        ⌜ (r ≡ placed ts place)
+        × Stored t scalars «exon_starts» «exon_ends» «seg_phases» «seg_exons» «seg_starts» «seg_ends» selenocysteine ⌝ }
 {
     let count = count_rows(kinds);
     if count <= place {
