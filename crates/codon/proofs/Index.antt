@@ -2,13 +2,14 @@
 -- Assumes nothing.
 use Prim.Native.Nat.{ℕ, zero, suc, _+_, _*_, _<_}
 use mathlib.Core.Path.{_≡_, refl, _∙_}
-use mathlib.Core.Bool.{true, _&&_}
+use mathlib.Core.Bool.{Bool, true, _&&_}
 use native.Mathlib.Omega.{arith}
+use lib.Dec.{ltb}
 use borrow.Author.Tests.{ltb-true, lt-ltb}
 use Rattle.common.proofs.TestParts.{on-test, and-true}
 use Rattle.codon.specs.declared.Codon.{Codon}
 use Rattle.codon.specs.declared.table.CodonIndex.the-variants.{Numbered, NoCodon}
-use Rattle.codon.specs.Bases.{baseNumber, isBase, baseByte}
+use Rattle.codon.specs.Bases.{baseNumber, baseByte}
 use Rattle.codon.specs.Table.{codonToIndex}
 
 -- a base number's byte has that number
@@ -41,11 +42,14 @@ found-place {c} f =
 pub never : {A : Type 0} {n : ℕ} → NoCodon ≡ Numbered n → A
 never e = absurd (let z : _≡_ {A = ℕ} 0 1 = cc in omega arith)
 
+abbrev numbered : ℕ → Bool
+numbered b = ltb (baseNumber b) 4
+
 module _ (c : Codon) where
-  bases : isBase (c .first) && isBase (c .second) && isBase (c .third) ≡ true → Found c (baseNumber (c .first) * 16 + baseNumber (c .second) * 4 + baseNumber (c .third))
+  bases : numbered (c .first) && numbered (c .second) && numbered (c .third) ≡ true → Found c (baseNumber (c .first) * 16 + baseNumber (c .second) * 4 + baseNumber (c .third))
   bases h =
-      let z = and-true (isBase (c .first) && isBase (c .second)) (isBase (c .third)) h in
-      let y = and-true (isBase (c .first)) (isBase (c .second)) (z .0) in
+      let z = and-true (numbered (c .first) && numbered (c .second)) (numbered (c .third)) h in
+      let y = and-true (numbered (c .first)) (numbered (c .second)) (z .0) in
       record {
         first = ltb-true (baseNumber (c .first)) 4 (y .0);
         second = ltb-true (baseNumber (c .second)) 4 (y .1);
@@ -56,7 +60,7 @@ module _ (c : Codon) where
   pub found : (n : ℕ) → codonToIndex c ≡ Numbered n → Found c n
   unfolding codonToIndex
   found n e =
-      on-test (isBase (c .first) && isBase (c .second) && isBase (c .third))
+      on-test (numbered (c .first) && numbered (c .second) && numbered (c .third))
       (λ h. let f = bases h in let p = f .place ∙ cc (rw h at e) in record { first = f .first; second = f .second; third = f .third; place = p })
       (λ h. never (rw h at e))
 
@@ -64,7 +68,7 @@ module _ (c : Codon) where
   pub not-found : ((n : ℕ) → Found c n → ⊥) → codonToIndex c ≡ NoCodon
   unfolding codonToIndex
   not-found none =
-      on-test (isBase (c .first) && isBase (c .second) && isBase (c .third))
+      on-test (numbered (c .first) && numbered (c .second) && numbered (c .third))
       (λ h. absurd (none _ (bases h)))
       (λ h. rw h)
 

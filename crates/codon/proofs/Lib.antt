@@ -1,2 +1,3 @@
+pub mod BaseNumbers
 pub mod Index
 pub mod Replaced

@@ -1,1 +1,2 @@
+pub mod BaseNumbers
 pub mod Published

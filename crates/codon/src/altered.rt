@@ -1,8 +1,8 @@
 // A codon with one base replaced, and its letter.
 use crate::Codon;
-use crate::bases::base_numbers;
+use crate::bases::base_number;
 use crate::table::CodonIndex;
-use crate::table::numbers_to_index;
+use crate::table::codon_to_index;
 use crate::table::translate_codon;
 ghost use mathlib.Core.Path.{_≡_};
 ghost use Prim.Native.Nat.{_+_, _*_, _<_};
@@ -61,13 +61,12 @@ pub fn translate_altered_codon(c: Codon, place: u8, b: u8) -> u8
         return translate_codon(c);
     }
     // The base that stood at the place does not matter: A stands for it.
-    let n = base_numbers(build_alt_codon(c, place, b'A'), b);
-    let CodonIndex::Numbered(codon) = numbers_to_index(n) else {
+    let CodonIndex::Numbered(codon) = codon_to_index(build_alt_codon(c, place, b'A')) else {
         return b'X';
     };
-    let k = n.other;
-    if k > 3 {
+    let base = base_number(b);
+    if base > 3 {
         return b'X';
     }
-    altered_letter(codon, place, k)
+    altered_letter(codon, place, base)
 }

@@ -1,49 +1,39 @@
 // Base numbers and complements.
-use crate::Codon;
 ghost use mathlib.Core.Path.{_≡_};
-ghost use Rattle.codon.specs.Bases.{baseNumber, complementOf};
+ghost use Rattle.codon.specs.Bases.{isBase, twoBits, baseNumber, complementOf};
 
-// The number of each byte as a base: 0 to 3 for A, C, G and T; 4, none, for every other byte.
-const BASE_NUMBERS: [u8; 256] = *b"\
-\x04\x04\x04\x04\x04\x04\x04\x04\x04\x04\x04\x04\x04\x04\x04\x04\
-\x04\x04\x04\x04\x04\x04\x04\x04\x04\x04\x04\x04\x04\x04\x04\x04\
-\x04\x04\x04\x04\x04\x04\x04\x04\x04\x04\x04\x04\x04\x04\x04\x04\
-\x04\x04\x04\x04\x04\x04\x04\x04\x04\x04\x04\x04\x04\x04\x04\x04\
-\x04\x00\x04\x01\x04\x04\x04\x02\x04\x04\x04\x04\x04\x04\x04\x04\
-\x04\x04\x04\x04\x03\x04\x04\x04\x04\x04\x04\x04\x04\x04\x04\x04\
-\x04\x04\x04\x04\x04\x04\x04\x04\x04\x04\x04\x04\x04\x04\x04\x04\
-\x04\x04\x04\x04\x04\x04\x04\x04\x04\x04\x04\x04\x04\x04\x04\x04\
-\x04\x04\x04\x04\x04\x04\x04\x04\x04\x04\x04\x04\x04\x04\x04\x04\
-\x04\x04\x04\x04\x04\x04\x04\x04\x04\x04\x04\x04\x04\x04\x04\x04\
-\x04\x04\x04\x04\x04\x04\x04\x04\x04\x04\x04\x04\x04\x04\x04\x04\
-\x04\x04\x04\x04\x04\x04\x04\x04\x04\x04\x04\x04\x04\x04\x04\x04\
-\x04\x04\x04\x04\x04\x04\x04\x04\x04\x04\x04\x04\x04\x04\x04\x04\
-\x04\x04\x04\x04\x04\x04\x04\x04\x04\x04\x04\x04\x04\x04\x04\x04\
-\x04\x04\x04\x04\x04\x04\x04\x04\x04\x04\x04\x04\x04\x04\x04\x04\
-\x04\x04\x04\x04\x04\x04\x04\x04\x04\x04\x04\x04\x04\x04\x04\x04";
-
-// The numbers of a codon's three bytes, and of another byte, as bases.
-pub(crate) struct BaseNumbers {
-    pub first: u8,
-    pub second: u8,
-    pub third: u8,
-    pub other: u8,
+// Whether the byte is A, C, G or T.
+pub fn is_base(b: u8) -> bool
+    ensures { λ r. ⌜ r ≡ isBase b ⌝ }
+{
+    match b {
+        b'A' => true,
+        b'C' => true,
+        b'G' => true,
+        b'T' => true,
+        _ => false,
+    }
 }
 
-// The numbers of a codon's bases and of another byte, from one reading of the table.
-pub(crate) fn base_numbers(c: Codon, other: u8) -> BaseNumbers
-    ensures { λ r. ⌜ (r .first ≡ baseNumber (c .first))
-        × (r .second ≡ baseNumber (c .second))
-        × (r .third ≡ baseNumber (c .third))
-        × (r .other ≡ baseNumber other) ⌝ }
+// The byte halved, modulo 4, and where that is 2 or 3 taken from 5: 0, 1, 2 and 3 of A, C, G and T.
+fn two_bits(b: u8) -> u8
+    ensures { λ r. ⌜ r ≡ twoBits b ⌝ }
 {
-    let numbers = BASE_NUMBERS;
-    BaseNumbers {
-        first: numbers[c.first as usize],
-        second: numbers[c.second as usize],
-        third: numbers[c.third as usize],
-        other: numbers[other as usize],
+    let n = b / 2 % 4;
+    if n < 2 {
+        return n;
     }
+    5 - n
+}
+
+// The number of a base: A 0, C 1, G 2, T 3. Every other byte has 4, none.
+pub fn base_number(b: u8) -> u8
+    ensures { λ r. ⌜ r ≡ baseNumber b ⌝ }
+{
+    if !is_base(b) {
+        return 4;
+    }
+    two_bits(b)
 }
 
 // A and T, C and G are exchanged; every other byte stays. Tests one after the other become conditional moves, a `match` a jump that random

@@ -6,7 +6,9 @@ mod table;
 
 pub use altered::build_alt_codon;
 pub use altered::translate_altered_codon;
+pub use bases::base_number;
 pub use bases::complement;
+pub use bases::is_base;
 pub use display::format_amino_acids;
 pub use table::translate_codon;
 pub use table::translate_reference_codon;

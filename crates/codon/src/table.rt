@@ -1,10 +1,7 @@
 // The genetic code: the letter of a codon.
 use crate::Codon;
-use crate::bases::BaseNumbers;
-use crate::bases::base_numbers;
+use crate::bases::base_number;
 ghost use mathlib.Core.Path.{_≡_};
-ghost use Rattle.codon.specs.declared.Codon.{Codon};
-ghost use Rattle.codon.specs.Bases.{baseNumber};
 ghost use Rattle.codon.specs.Table.{standardTable, codonToIndex, translateCodon, isTga, translateReferenceCodon};
 
 // The place of a codon in a code table, 0 to 63.
@@ -20,31 +17,23 @@ QHQHPPPPRRRRLLLL\
 EDEDAAAAGGGGVVVV\
 *Y*YSSSS*CWCLFLF";
 
-// The place in the table of a codon whose bytes have those numbers, none where one is no base.
-pub(crate) fn numbers_to_index(n: BaseNumbers) -> CodonIndex
-    ensures { λ r. ⌜ ((c : Codon)
-        → n .first ≡ baseNumber (c .first)
-        → n .second ≡ baseNumber (c .second)
-        → n .third ≡ baseNumber (c .third)
-        → r ≡ codonToIndex c) ⌝ }
-{
-    if n.first > 3 {
-        return CodonIndex::NoCodon;
-    }
-    if n.second > 3 {
-        return CodonIndex::NoCodon;
-    }
-    if n.third > 3 {
-        return CodonIndex::NoCodon;
-    }
-    CodonIndex::Numbered(n.first * 16 + n.second * 4 + n.third)
-}
-
 // The place of a codon in the table, none where a byte is not A, C, G or T.
-fn codon_to_index(c: Codon) -> CodonIndex
+pub(crate) fn codon_to_index(c: Codon) -> CodonIndex
     ensures { λ r. ⌜ r ≡ codonToIndex c ⌝ }
 {
-    numbers_to_index(base_numbers(c, b'A'))
+    let first = base_number(c.first);
+    if first > 3 {
+        return CodonIndex::NoCodon;
+    }
+    let second = base_number(c.second);
+    if second > 3 {
+        return CodonIndex::NoCodon;
+    }
+    let third = base_number(c.third);
+    if third > 3 {
+        return CodonIndex::NoCodon;
+    }
+    CodonIndex::Numbered(first * 16 + second * 4 + third)
 }
 
 // The letter of a codon, X where a byte is not A, C, G or T.

@@ -2,28 +2,15 @@
 use super::Call;
 use super::FetchedBase;
 use super::window::base_at;
+use codon::is_base;
 use transcript::question::QUERY_LIMIT;
 ghost use mathlib.Core.Path.{_≡_};
 ghost use mathlib.Core.Bool.{not, _||_};
 ghost use lib.Dec.{eqb};
-ghost use Rattle.codon.specs.Bases.{isBase};
 ghost use Rattle.transcript.specs.Transcript.{Transcript};
 ghost use Rattle.transcript.specs.Admission.{admission};
 ghost use Rattle.consequence.specs.Window.{windowFrom, windowWasGiven};
 ghost use Rattle.consequence.specs.Call.{badAlt, windowRefusal, openingRefusal};
-
-// Whether the byte is A, C, G or T.
-fn is_base(b: u8) -> bool
-    ensures { λ r. ⌜ r ≡ isBase b ⌝ }
-{
-    match b {
-        b'A' => true,
-        b'C' => true,
-        b'G' => true,
-        b'T' => true,
-        _ => false,
-    }
-}
 
 // 16: alt is no base, or it is ref.
 fn bad_alt(call: Call) -> bool

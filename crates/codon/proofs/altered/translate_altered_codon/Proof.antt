@@ -11,13 +11,10 @@ use Rattle.codon.proofs.altered.translate_altered_codon.Tie as tie
 
 -- what the place of the codon with A put in was found to be
 place-of :
-    (c : tie.After-numbers-to-index) →
-    let a = c .before .before .before .before .args in
-    codonToIndex (buildAltCodon (a .c) (a .place) 65) ≡ c .numbers-to-index .result
-place-of c =
-    let d = c .before .before .build-alt-codon in
-    let e = c .before .base-numbers .ensures in
-    ap codonToIndex (sym (d .ensures)) ∙ sym (c .numbers-to-index .ensures (d .result) (e .0) (e .1) (e .2))
+    (c : tie.After-codon-to-index) →
+    let a = c .before .before .before .args in
+    codonToIndex (buildAltCodon (a .c) (a .place) 65) ≡ c .codon-to-index .result
+place-of c = ap codonToIndex (sym (c .before .build-alt-codon .ensures)) ∙ sym (c .codon-to-index .ensures)
 
 translate-codon-requires : tie.Need-translate-codon-requires
 translate-codon-requires c κs = search needs
@@ -30,11 +27,8 @@ returns c =
 build-alt-codon-requires : tie.Need-build-alt-codon-requires
 build-alt-codon-requires c κs = search needs
 
-base-numbers-requires : tie.Need-base-numbers-requires
-base-numbers-requires c κs = search needs
-
-numbers-to-index-requires : tie.Need-numbers-to-index-requires
-numbers-to-index-requires c κs = search needs
+codon-to-index-requires : tie.Need-codon-to-index-requires
+codon-to-index-requires c κs = search needs
 
 enum-known-codon : tie.Need-enum-known-codon
 enum-known-codon c = search needs
@@ -46,35 +40,37 @@ returns-2 : tie.Need-returns-2
 unfolding translateCodon
 returns-2 c =
     let g = c .before .before in
-    let e = g .before .before .before in
+    let e = g .before .before in
     let a = e .before .args in
     rw (altered-none (a .c) (a .place) (a .b) (e .if1 .left) (place-of g ∙ c .enum-told .given .1))
+
+base-number-requires : tie.Need-base-number-requires
+base-number-requires c κs = search needs
 
 returns-3 : tie.Need-returns-3
 unfolding translateCodon
 returns-3 c =
-    let m = c .before .before .before .before .before in
-    let e = m .before .before in
+    let e = c .before .before .before .before .before .before .before in
     let a = e .before .args in
-    rw (altered-lost (a .c) (a .place) (a .b) (e .if1 .left) (let h = m .base-numbers .ensures .3 in omega arith))
+    rw (altered-lost (a .c) (a .place) (a .b) (e .if1 .left) (let h = c .before .base-number .ensures in omega arith))
 
 altered-letter-requires : tie.Need-altered-letter-requires
 altered-letter-requires c κs =
-    let n = c .before .before in
+    let n = c .before .before .before in
     let g = n .before .before in
-    let a = g .before .before .before .before .args in
+    let a = g .before .before .before .args in
     let h = codon-below (buildAltCodon (a .c) (a .place) 65) (n .codon .given .0 .0) (place-of g ∙ n .codon .given .1) in
     omega arith
 
 returns-4 : tie.Need-returns-4
 returns-4 c =
-    let n = c .before .before .before in
+    let k = c .before .before .base-number in
+    let n = c .before .before .before .before in
     let g = n .before .before in
-    let m = g .before in
-    let e = m .before .before in
+    let e = g .before .before in
     let a = e .before .args in
     c .altered-letter .ensures
-    ∙ altered-is (a .c) (a .b) (n .codon .given .0 .0) (m .base-numbers .result .other) (omega arith) (sym (m .base-numbers .ensures .3)) standardTable (a .place)
+    ∙ altered-is (a .c) (a .b) (n .codon .given .0 .0) (k .result) (omega arith) (sym (k .ensures)) standardTable (a .place)
     (e .if1 .left) (place-of g ∙ n .codon .given .1)
 
 pub translate-altered-codon-spec : {M : Type 1} → statement M
@@ -84,11 +80,11 @@ translate-altered-codon-spec =
     translate-codon-requires
     returns
     build-alt-codon-requires
-    base-numbers-requires
-    numbers-to-index-requires
+    codon-to-index-requires
     enum-known-codon
     enum-told
     returns-2
+    base-number-requires
     returns-3
     altered-letter-requires
     returns-4)
