@@ -1,8 +1,9 @@
 -- What is known of a base number and of a codon's place in the table.
 -- Assumes nothing.
 use Prim.Native.Nat.{ℕ, zero, suc, _+_, _*_, _<_}
-use mathlib.Core.Path.{_≡_, refl, _∙_}
+use mathlib.Core.Path.{_≡_, refl, sym, _∙_, ap}
 use mathlib.Core.Bool.{Bool, true, _&&_}
+use mathlib.Core.List.{List}
 use native.Mathlib.Omega.{arith}
 use lib.Dec.{ltb}
 use borrow.Author.Tests.{ltb-true, lt-ltb}
@@ -10,7 +11,7 @@ use Rattle.common.proofs.TestParts.{on-test, and-true}
 use Rattle.codon.specs.declared.Codon.{Codon}
 use Rattle.codon.specs.declared.table.CodonIndex.the-variants.{Numbered, NoCodon}
 use Rattle.codon.specs.Bases.{baseNumber, baseByte}
-use Rattle.codon.specs.Table.{codonToIndex}
+use Rattle.codon.specs.Table.{codonToIndex, letterAt, translateCodon}
 
 -- a base number's byte has that number
 pub byte-number : (n : ℕ) → n < 4 → baseNumber (baseByte n) ≡ n
@@ -71,6 +72,11 @@ module _ (c : Codon) where
       on-test (numbered (c .first) && numbered (c .second) && numbered (c .third))
       (λ h. absurd (none _ (bases h)))
       (λ h. rw h)
+
+  -- the letter at a codon's place is its letter
+  pub letter-is : (table : List ℕ) (n : ℕ) → codonToIndex c ≡ Numbered n → letterAt table (Numbered n) ≡ translateCodon table c
+  unfolding translateCodon
+  letter-is table n e = ap (letterAt table) (sym e)
 
   -- a codon's place is below 64
   pub codon-below : (n : ℕ) → codonToIndex c ≡ Numbered n → n < 64

@@ -2,7 +2,9 @@
 -- Assumes nothing.
 use Prim.Native.Nat.{ℕ, zero, suc, _+_, _*_, _/_, _%_, _≤_, _<_}
 use mathlib.Core.Path.{_≡_, refl, sym, _∙_, ap}
+use mathlib.Core.Bool.{Bool, true, false, cond}
 use mathlib.Core.List.{List}
+use lib.Dec.{eqb}
 use native.Mathlib.Omega.{arith}
 use borrow.Author.Tests.{ne-eqb}
 use Rattle.codon.specs.declared.Codon.{Codon}
@@ -26,11 +28,10 @@ same-place n f g = found-place f ∙ sym (found-place g)
 module _ (c : Codon) (b n k : ℕ) (hk : k < 4) (hb : baseNumber b ≡ k) where
   -- the codon at place n with base k put in stands where c with b put in stands
   replaced :
-      (place : ℕ) → place ≤ 2 → n < 64 → Found (buildAltCodon c place 65) n →
+      (place : ℕ) → place ≤ 2 → n < 64 → Found c n →
       codonToIndex (buildAltCodon (codonNumbered n) place (baseByte k)) ≡ codonToIndex (buildAltCodon c place b)
   unfolding buildAltCodon
   replaced zero h hn f =
-      let a = a-number in
       let i = byte-number k hk in
       let y = byte-number (n / 4 % 4) (omega arith) in
       let z = byte-number (n % 4) (omega arith) in
@@ -39,7 +40,6 @@ module _ (c : Codon) (b n k : ℕ) (hk : k < 4) (hb : baseNumber b ≡ k) where
       (record { first = omega arith; second = omega arith; third = omega arith; place = omega arith })
       (record { first = omega arith; second = f .second; third = f .third; place = omega arith })
   replaced (suc zero) h hn f =
-      let a = a-number in
       let x = byte-number (n / 16) (omega arith) in
       let i = byte-number k hk in
       let z = byte-number (n % 4) (omega arith) in
@@ -48,7 +48,6 @@ module _ (c : Codon) (b n k : ℕ) (hk : k < 4) (hb : baseNumber b ≡ k) where
       (record { first = omega arith; second = omega arith; third = omega arith; place = omega arith })
       (record { first = f .first; second = omega arith; third = f .third; place = omega arith })
   replaced (suc (suc zero)) h hn f =
-      let a = a-number in
       let x = byte-number (n / 16) (omega arith) in
       let y = byte-number (n / 4 % 4) (omega arith) in
       let i = byte-number k hk in
@@ -60,15 +59,14 @@ module _ (c : Codon) (b n k : ℕ) (hk : k < 4) (hb : baseNumber b ≡ k) where
 
   -- the entry of a codon, a place and a base is the letter of the codon with the base there
   pub altered-is :
-      (table : List ℕ) (place : ℕ) → place ≤ 2 → codonToIndex (buildAltCodon c place 65) ≡ Numbered n →
+      (table : List ℕ) (place : ℕ) → place ≤ 2 → codonToIndex c ≡ Numbered n →
       alteredLetter table (n * 12 + place * 4 + k) ≡ translateCodon table (buildAltCodon c place b)
   unfolding alteredLetter translateCodon
   altered-is table place h e =
       let x : (n * 12 + place * 4 + k) / 12 ≡ n = omega arith in
       let y : (n * 12 + place * 4 + k) / 4 % 3 ≡ place = omega arith in
       let z : (n * 12 + place * 4 + k) % 4 ≡ k = omega arith in
-      let d = buildAltCodon c place 65 in
-      rw (x, y, z) (ap (letterAt table) (replaced place h (codon-below d n e) (found d n e)))
+      rw (x, y, z) (ap (letterAt table) (replaced place h (codon-below c n e) (found c n e)))
 
 -- a codon that is none stays none, whatever is put in where a base stood
 pub altered-none :
@@ -93,6 +91,20 @@ altered-lost c zero b h l = not-found (buildAltCodon c 0 b) (λ n f. let x = f .
 altered-lost c (suc zero) b h l = not-found (buildAltCodon c 1 b) (λ n f. let y = f .second in omega arith)
 altered-lost c (suc (suc zero)) b h l = not-found (buildAltCodon c 2 b) (λ n f. let z = f .third in omega arith)
 altered-lost c (suc (suc (suc place))) b h l = absurd (omega arith)
+
+again : (t : Bool) (x y z : ℕ) → cond t x (cond t y z) ≡ cond t x z
+again true x y z = refl
+again false x y z = refl
+
+-- of two bases put in at one place the second stands
+pub altered-again : (c : Codon) (place a b : ℕ) → buildAltCodon (buildAltCodon c place a) place b ≡ buildAltCodon c place b
+unfolding buildAltCodon
+altered-again c place a b = λ k. record {
+  len = c .len;
+  first = again (eqb place 0) b a (c .first) k;
+  second = again (eqb place 1) b a (c .second) k;
+  third = again (eqb place 2) b a (c .third) k;
+}
 
 -- a place over 2 is no place of a codon
 pub unaltered : (c : Codon) (place b : ℕ) → 2 < place → buildAltCodon c place b ≡ c

@@ -7,7 +7,9 @@ use crate::table::translate_codon;
 ghost use mathlib.Core.Path.{_≡_};
 ghost use Prim.Native.Nat.{_+_, _*_, _<_};
 ghost use Rattle.codon.specs.Altered.{alteredLetter};
-ghost use Rattle.codon.specs.Table.{standardTable, translateCodon, buildAltCodon};
+ghost use Rattle.codon.specs.declared.Codon.{Codon};
+ghost use Rattle.codon.specs.declared.table.CodonIndex.the-variants.{Numbered};
+ghost use Rattle.codon.specs.Table.{standardTable, codonToIndex, translateCodon, buildAltCodon};
 
 // The letter of each codon with each place replaced by each base: entry 256 * place + 4 * codon + base. In this order the compiler lays
 // the table out by whole words.
@@ -53,7 +55,21 @@ fn altered_letter(codon: u8, place: u8, base: u8) -> u8
     ALTERED_LETTERS[place as usize * 256 + codon as usize * 4 + base as usize]
 }
 
-// The letter of the codon with the base at a place replaced, read from the table of altered letters.
+// The letter of the codon of that number with the base at a place replaced, read from the table of altered letters.
+pub(crate) fn altered_letter_at(codon: u8, place: u8, b: u8) -> u8
+    requires { ⌜ (codon < 64) × (place < 3) ⌝ }
+    ensures { λ r. ⌜ ((c : Codon)
+        → codonToIndex c ≡ Numbered codon
+        → r ≡ translateCodon standardTable (buildAltCodon c place b)) ⌝ }
+{
+    let base = base_number(b);
+    if base > 3 {
+        return b'X';
+    }
+    altered_letter(codon, place, base)
+}
+
+// The letter of the codon with the base at a place replaced.
 pub fn translate_altered_codon(c: Codon, place: u8, b: u8) -> u8
     ensures { λ r. ⌜ r ≡ translateCodon standardTable (buildAltCodon c place b) ⌝ }
 {
@@ -64,9 +80,5 @@ pub fn translate_altered_codon(c: Codon, place: u8, b: u8) -> u8
     let CodonIndex::Numbered(codon) = codon_to_index(build_alt_codon(c, place, b'A')) else {
         return b'X';
     };
-    let base = base_number(b);
-    if base > 3 {
-        return b'X';
-    }
-    altered_letter(codon, place, base)
+    altered_letter_at(codon, place, b)
 }

@@ -3,6 +3,7 @@ mod altered;
 mod bases;
 mod display;
 mod table;
+mod translate;
 
 pub use altered::build_alt_codon;
 pub use altered::translate_altered_codon;
@@ -12,6 +13,7 @@ pub use bases::is_base;
 pub use display::format_amino_acids;
 pub use table::translate_codon;
 pub use table::translate_reference_codon;
+pub use translate::translate_codons;
 
 // The bases of one codon in coding order: three, or the one or two of an unfinished last codon. A base that is not there is 0.
 pub struct Codon {
@@ -19,6 +21,12 @@ pub struct Codon {
     pub first: u8,
     pub second: u8,
     pub third: u8,
+}
+
+// The letters of a reference codon and of that codon with one base replaced.
+pub struct Letters {
+    pub reference: u8,
+    pub altered: u8,
 }
 
 // What the codons column shows: the reference and the altered codon, and the place of the changed base.

@@ -2,7 +2,9 @@
 use crate::Codon;
 use crate::bases::base_number;
 ghost use mathlib.Core.Path.{_≡_};
-ghost use Rattle.codon.specs.Table.{standardTable, codonToIndex, translateCodon, isTga, translateReferenceCodon};
+ghost use Prim.Native.Nat.{_<_};
+ghost use Rattle.codon.specs.declared.table.CodonIndex.the-variants.{Numbered};
+ghost use Rattle.codon.specs.Table.{standardTable, codonToIndex, letterAt, translateCodon, isTga, referenceLetter, translateReferenceCodon};
 
 // The place of a codon in a code table, 0 to 63.
 pub(crate) enum CodonIndex {
@@ -36,6 +38,14 @@ pub(crate) fn codon_to_index(c: Codon) -> CodonIndex
     CodonIndex::Numbered(first * 16 + second * 4 + third)
 }
 
+// The letter at a place of the table.
+pub(crate) fn letter_at(n: u8) -> u8
+    requires { ⌜ n < 64 ⌝ }
+    ensures { λ r. ⌜ r ≡ letterAt standardTable (Numbered n) ⌝ }
+{
+    STANDARD_TABLE[n as usize]
+}
+
 // The letter of a codon, X where a byte is not A, C, G or T.
 pub fn translate_codon(c: Codon) -> u8
     ensures { λ r. ⌜ r ≡ translateCodon standardTable c ⌝ }
@@ -43,7 +53,7 @@ pub fn translate_codon(c: Codon) -> u8
     let CodonIndex::Numbered(n) = codon_to_index(c) else {
         return b'X';
     };
-    STANDARD_TABLE[n as usize]
+    letter_at(n)
 }
 
 fn is_tga(c: Codon) -> bool
@@ -58,12 +68,19 @@ fn is_tga(c: Codon) -> bool
     c.third == b'A'
 }
 
-// A reference TGA that holds a selenocysteine base reads U.
-pub fn translate_reference_codon(selenocysteine: bool, c: Codon) -> u8
-    ensures { λ r. ⌜ r ≡ translateReferenceCodon standardTable selenocysteine c ⌝ }
+// The letter of a reference codon whose plain letter is given: a TGA that holds a selenocysteine base reads U.
+pub(crate) fn reference_letter(selenocysteine: bool, c: Codon, letter: u8) -> u8
+    ensures { λ r. ⌜ r ≡ referenceLetter selenocysteine c letter ⌝ }
 {
     if is_tga(c) && selenocysteine {
         return b'U';
     }
-    translate_codon(c)
+    letter
+}
+
+// The letter of a reference codon.
+pub fn translate_reference_codon(selenocysteine: bool, c: Codon) -> u8
+    ensures { λ r. ⌜ r ≡ translateReferenceCodon standardTable selenocysteine c ⌝ }
+{
+    reference_letter(selenocysteine, c, translate_codon(c))
 }

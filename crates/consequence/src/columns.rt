@@ -6,8 +6,7 @@ use codon::AminoAcids;
 use codon::Codon;
 use codon::Codons;
 use codon::build_alt_codon;
-use codon::translate_altered_codon;
-use codon::translate_reference_codon;
+use codon::translate_codons;
 use locate::CdsOffset;
 use terms::Consequence;
 use terms::TermSet;
@@ -132,7 +131,6 @@ pub(crate) fn read_codon(
     if incomplete {
         return incomplete_codon(offset, number, c, altered, k);
     }
-    let x = translate_reference_codon(selenocysteine, c);
-    let y = translate_altered_codon(c, k, b);
-    whole_codon(start, padded, offset, number, c, altered, k, x, y)
+    let letters = translate_codons(selenocysteine, c, k, b);
+    whole_codon(start, padded, offset, number, c, altered, k, letters.reference, letters.altered)
 }

@@ -5,7 +5,7 @@ use native.Mathlib.Omega.{arith}
 use borrow.Author.Needs.{needs}
 use Rattle.codon.specs.Table.{standardTable, codonToIndex, translateCodon, buildAltCodon}
 use Rattle.codon.proofs.Index.{codon-below}
-use Rattle.codon.proofs.Replaced.{altered-is, altered-none, altered-lost, unaltered}
+use Rattle.codon.proofs.Replaced.{altered-none, altered-again, unaltered}
 use Rattle.codon.proofs.altered.translate_altered_codon.Statement.{statement}
 use Rattle.codon.proofs.altered.translate_altered_codon.Tie as tie
 
@@ -44,34 +44,21 @@ returns-2 c =
     let a = e .before .args in
     rw (altered-none (a .c) (a .place) (a .b) (e .if1 .left) (place-of g ∙ c .enum-told .given .1))
 
-base-number-requires : tie.Need-base-number-requires
-base-number-requires c κs = search needs
-
-returns-3 : tie.Need-returns-3
-unfolding translateCodon
-returns-3 c =
-    let e = c .before .before .before .before .before .before .before in
-    let a = e .before .args in
-    rw (altered-lost (a .c) (a .place) (a .b) (e .if1 .left) (let h = c .before .base-number .ensures in omega arith))
-
-altered-letter-requires : tie.Need-altered-letter-requires
-altered-letter-requires c κs =
-    let n = c .before .before .before in
+altered-letter-at-requires : tie.Need-altered-letter-at-requires
+altered-letter-at-requires c κs =
+    let n = c .before in
     let g = n .before .before in
     let a = g .before .before .before .args in
     let h = codon-below (buildAltCodon (a .c) (a .place) 65) (n .codon .given .0 .0) (place-of g ∙ n .codon .given .1) in
     omega arith
 
-returns-4 : tie.Need-returns-4
-returns-4 c =
-    let k = c .before .before .base-number in
-    let n = c .before .before .before .before in
+returns-3 : tie.Need-returns-3
+returns-3 c =
+    let n = c .before .before in
     let g = n .before .before in
-    let e = g .before .before in
-    let a = e .before .args in
-    c .altered-letter .ensures
-    ∙ altered-is (a .c) (a .b) (n .codon .given .0 .0) (k .result) (omega arith) (sym (k .ensures)) standardTable (a .place)
-    (e .if1 .left) (place-of g ∙ n .codon .given .1)
+    let a = g .before .before .before .args in
+    c .altered-letter-at .ensures (buildAltCodon (a .c) (a .place) 65) (place-of g ∙ n .codon .given .1)
+    ∙ ap (translateCodon standardTable) (altered-again (a .c) (a .place) 65 (a .b))
 
 pub translate-altered-codon-spec : {M : Type 1} → statement M
 translate-altered-codon-spec =
@@ -84,7 +71,5 @@ translate-altered-codon-spec =
     enum-known-codon
     enum-told
     returns-2
-    base-number-requires
-    returns-3
-    altered-letter-requires
-    returns-4)
+    altered-letter-at-requires
+    returns-3)
