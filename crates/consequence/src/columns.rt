@@ -132,5 +132,15 @@ pub(crate) fn read_codon(
         return incomplete_codon(offset, number, c, altered, k);
     }
     let letters = translate_codons(selenocysteine, c, k, b);
-    whole_codon(start, padded, offset, number, c, altered, k, letters.reference, letters.altered)
+    whole_codon(
+        start,
+        padded,
+        offset,
+        number,
+        c,
+        altered,
+        k,
+        letters.reference,
+        letters.altered,
+    )
 }
