@@ -1,9 +1,14 @@
-"""The part of the model that answers calls and intervals, from document 01."""
+"""The part of the model that answers calls and intervals, from document 01,
+and from 6/12 of document 02 the letters of chromosome 25."""
 
-# NCBI genetic code table 1 as published: amino acids for the codons in the
-# order TTT, TTC, TTA, TTG, TCT, ... GGG.
+# NCBI genetic code tables 1 and 2 as published: amino acids for the codons in
+# the order TTT, TTC, TTA, TTG, TCT, ... GGG.
 NCBI_BASES = "TCAG"
-NCBI_TABLE_1 = "FFLLSSSSYY**CC*WLLLLPPPPHHQQRRRRIIIMTTTTNNKKSSRRVVVVAAAADDEEGGGG"
+NCBI_TABLES = {
+    1: "FFLLSSSSYY**CC*WLLLLPPPPHHQQRRRRIIIMTTTTNNKKSSRRVVVVAAAADDEEGGGG",
+    2: "FFLLSSSSYY**CCWWLLLLPPPPHHQQRRRRIIMMTTTTNNKKSS**VVVVAAAADDEEGGGG",
+}
+MITOCHONDRIAL = 25
 
 # Severity ranks of the terms that a single base can have.
 RANK = {
@@ -36,12 +41,13 @@ FLANK_KINDS = {"Upstream", "Downstream"}
 COMPLEMENT = dict(zip(b"ACGT", b"TGCA"))
 
 
-def letter(codon):
+def letter(codon, chromosome):
     try:
         digits = [NCBI_BASES.index(chr(b)) for b in codon]
     except ValueError:
         return "X"
-    return NCBI_TABLE_1[digits[0] * 16 + digits[1] * 4 + digits[2]]
+    table = NCBI_TABLES[2 if chromosome == MITOCHONDRIAL else 1]
+    return table[digits[0] * 16 + digits[1] * 4 + digits[2]]
 
 
 def shown(codon, at):
@@ -83,7 +89,7 @@ def coding_columns(model, window, k, alt):
     if len(codon) < 3:
         terms = ["incomplete_terminal_codon_variant", "coding_sequence_variant"]
         return 0, (codon_number, codons, b"X", terms)
-    ref_letter, alt_letter = letter(codon), letter(altered)
+    ref_letter, alt_letter = (letter(c, model.t.chromosome) for c in (codon, altered))
     if bytes(codon) == b"TGA" and codon_number in model.sec_codons:
         ref_letter = "U"
     if "X" in (ref_letter, alt_letter):

@@ -1,8 +1,8 @@
 #!/usr/bin/env python3
 """A second reading of document 01, for comparison with the Rust's lists.
 
-Written from document 01 alone: it lists the bases of a transcript one by one
-and counts, where the Rust adds and searches. `model.py [CRATES]` compares it
+Written from document 01 and the requests that changed it alone: it lists the
+bases of a transcript one by one and counts, where the Rust adds and searches. `model.py [CRATES]` compares it
 with the lists and prints every difference, at most 20 of each list.
 """
 

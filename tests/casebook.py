@@ -61,3 +61,11 @@ def window(chromosome=1, first=100, data=None):
 
 def reverse_complement(data):
     return data[::-1].translate(bytes.maketrans(b"ACGT", b"TGCA"))
+
+
+def turned(t, length, **fields):
+    """The transcript on the other strand of a window of this length from 0, with some of its fields set."""
+    turn = lambda start, end: (length - end, length - start)
+    return dataclasses.replace(t, minus=not t.minus, exons=[turn(*e) for e in t.exons], cds=t.cds and turn(*t.cds),
+                               segments=[(phase, exon, *turn(*span)) for phase, exon, *span in t.segments],
+                               selenocysteine=[length - 1 - b for b in t.selenocysteine], **fields)

@@ -9,6 +9,9 @@ sys.path.insert(0, str(pathlib.Path(__file__).resolve().parent.parent / "demo"))
 import deck as writer
 
 LIMIT = 1_000_000_000
+MITO = 25
+# What chromosome 25 reads otherwise than the others do, and its other M.
+TELLING = [b"AGA", b"AGG", b"ATA", b"TGA", b"ATG"]
 ODD = b"Nnacgt-/ \n\r\0\x7f\x80\xc5\xe5\xff"
 # Where the links of each kind of record stand.
 LINKS = {0: [2], 1: [2, 10, 12], 2: [12, 14], 3: [2], 4: [2], 5: [2]}
@@ -32,6 +35,23 @@ def transcript(rng, ident, chromosome, low):
         coding = [p for p in bases if first <= p <= last]
         t.selenocysteine = [rng.choice(coding) for _ in range(rng.choice([0, 0, 0, 1, 2, 5]))]
     return t
+
+
+def coding(t):
+    """Coding bases from 5' to 3'."""
+    return [p for _, _, start, end in t.segments
+            for p in (reversed(range(start, end)) if t.minus else range(start, end))]
+
+
+def telling(rng, t, first, bases):
+    """The window's bases with half of the transcript's whole codons set to one of TELLING."""
+    frame, bases = coding(t), bytearray(bases)
+    for at in range(t.segments[0][0] if frame else 0, len(frame) - 2, 3):
+        codon = rng.choice(TELLING).translate(bytes.maketrans(b"ACGT", b"TGCA") if t.minus else None)
+        for p, base in zip(frame[at:at + 3], codon if rng.random() < 0.5 else b""):
+            if first <= p < first + len(bases):
+                bases[p - first] = base
+    return bytes(bases)
 
 
 def shuffled(rng, deck):
@@ -90,7 +110,7 @@ def calls(rng, chromosome, first, bases, transcripts, count):
 
 def good(rng, most_calls=30, change=None):
     """Deck, window file and calls; `change` is done to one of the transcripts."""
-    chromosome = rng.choice([1, 1, 7, 23, 24, 25])
+    chromosome = rng.choice([1, MITO, 7, 23, 24, MITO])
     low = rng.choice([0, rng.randrange(20_000), rng.randrange(20_000), LIMIT - 8_000])
     transcripts = []
     for _ in range(rng.choice([1, 1, 2, 3, 5])):
@@ -100,6 +120,8 @@ def good(rng, most_calls=30, change=None):
     first = max(0, low + rng.randint(-20, 60))
     length = rng.choice([0, rng.randrange(200), *[past - low + 60] * 4])
     bases = bytes(rng.choice(ODD) if rng.random() < 0.05 else rng.choice(b"ACGT") for _ in range(length))
+    for t in transcripts if chromosome == MITO else []:
+        bases = telling(rng, t, first, bases)
     if change:
         change(rng, rng.choice(transcripts))
     deck = shuffled(rng, writer.deck(transcripts))

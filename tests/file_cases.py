@@ -106,6 +106,6 @@ def cases():
     yield Case("long-transcript", "512 coding exons and 64 selenocysteine bases on minus", writer.deck([long]),
                writer.window(1, 0, bytes(data)),
                sampled(rng, data, 0, 150, [e for exon in long.exons for e in exon] + long.selenocysteine))
-    for name in ("example", "panel"):
+    for name in ("example", "panel", "mito"):
         files = [(DEMO / name / part).read_bytes() for part in ("deck.bin", "window.bin", "calls")]
         yield Case(f"demo-{name}", f"demo/{name}", *files)

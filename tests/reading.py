@@ -90,8 +90,8 @@ def answer(model, window, chromosome, position, ref, alt):
     place = position - first
     refusals = [
         (15, position + 1 > 1_000_010_000), (14, (chromosome, own) != (t.chromosome, t.chromosome)),
-        (20, t.chromosome == 25), (16, alt not in b"ACGT" or alt == ref),
-        (17, not 0 <= place < len(data)), (18, 0 <= place < len(data) and data[place] != ref)]
+        (16, alt not in b"ACGT" or alt == ref), (17, not 0 <= place < len(data)),
+        (18, 0 <= place < len(data) and data[place] != ref)]
     for number, cause in refusals:
         if cause:
             return b"%d" % number

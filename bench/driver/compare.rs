@@ -8,7 +8,7 @@ use super::made;
 use crate::driver::admission;
 use crate::driver::answer::Subject;
 use crate::driver::call;
-use crate::driver::record::Tx;
+use crate::driver::record::{MITOCHONDRIAL, Tx};
 use crate::driver::rng::Rng;
 use std::fmt::Write;
 use vareffect_proved::{self as proved, Call, Deck, Listing, Refusal, Transcript};
@@ -48,6 +48,16 @@ impl Tally {
             .is_none_or(|(size, _)| text.len() < *size)
         {
             self.smallest = Some((text.len(), text));
+        }
+    }
+
+    fn print(&self) {
+        println!(
+            "{}: {} asked, {} of them refused, {} different",
+            self.kind, self.asked, self.refused, self.different
+        );
+        if let Some((_, text)) = &self.smallest {
+            println!("the smallest difference:\n{text}");
         }
     }
 }
@@ -266,15 +276,26 @@ fn calls(rng: &mut Rng, s: &Subject, t: &Transcript, tally: &mut Tally, lines: &
     }
 }
 
+/// What is counted apart.
+const KINDS: [&str; 7] = [
+    "admission",
+    "deck",
+    "place",
+    "interval",
+    "call on chromosomes 1 to 24",
+    "call on chromosome 25",
+    "line",
+];
+
 /// Asks about `count` questions and prints what differs; whether nothing does.
 pub fn run(count: u64, seed: u64) -> bool {
     let mut rng = Rng::new(seed);
-    let mut tallies = ["admission", "deck", "place", "interval", "call", "line"].map(Tally::new);
+    let mut tallies = KINDS.map(Tally::new);
     let mut transcripts = 0_u32;
     while tallies.iter().map(|t| t.asked).sum::<u64>() < count {
         transcripts += 1;
         let tx = made::transcript(&mut rng, transcripts);
-        let [admitted, dealt, placed, beside, called, printed] = &mut tallies;
+        let [admitted, dealt, placed, beside, called, mito, printed] = &mut tallies;
         for _ in 0..4 {
             admissions(&mut rng, &tx, admitted);
         }
@@ -285,21 +306,18 @@ pub fn run(count: u64, seed: u64) -> bool {
         let subject = Subject::new(tx);
         places(&mut rng, &subject, &lent.transcript(), placed);
         intervals(&mut rng, &subject, &lent.transcript(), beside);
-        calls(&mut rng, &subject, &lent.transcript(), called, printed);
+        let own = if subject.tx.chrom == MITOCHONDRIAL {
+            mito
+        } else {
+            called
+        };
+        calls(&mut rng, &subject, &lent.transcript(), own, printed);
     }
     let asked: u64 = tallies.iter().map(|t| t.asked).sum();
     let different: u64 = tallies.iter().map(|t| t.different).sum();
     println!(
         "{asked} questions about {transcripts} transcripts, seed {seed}: {different} different"
     );
-    for t in &tallies {
-        println!(
-            "{}: {} asked, {} of them refused, {} different",
-            t.kind, t.asked, t.refused, t.different
-        );
-        if let Some((_, text)) = &t.smallest {
-            println!("the smallest difference:\n{text}");
-        }
-    }
+    tallies.iter().for_each(Tally::print);
     different == 0
 }

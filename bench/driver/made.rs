@@ -1,7 +1,7 @@
 //! Transcripts, windows and questions, random and near the edges.
 
 use crate::driver::bases::fill;
-use crate::driver::record::{QUERY_LIMIT, Segment, Tx};
+use crate::driver::record::{MITOCHONDRIAL, QUERY_LIMIT, Segment, Tx};
 use crate::driver::rng::Rng;
 use crate::driver::shape::{
     add_sec, coding_bases, exonic, plain, random_cds, random_plain, set_cds,
@@ -20,6 +20,7 @@ pub fn gene(rng: &mut Rng, count: u32, minus: bool) -> Tx {
 }
 
 /// An admitted transcript: mostly few exons with short gaps, at times a gene.
+/// One in eight is put on chromosome 25.
 pub fn transcript(rng: &mut Rng, id: u32) -> Tx {
     let count = match rng.below(400) {
         0 => rng.between(65, 512),
@@ -33,6 +34,9 @@ pub fn transcript(rng: &mut Rng, id: u32) -> Tx {
         return gene(rng, count.min(40), minus);
     }
     let mut tx = random_plain(rng, id, count);
+    if rng.below(8) == 0 {
+        tx.chrom = MITOCHONDRIAL;
+    }
     if rng.chance(85) {
         random_cds(rng, &mut tx);
         if rng.chance(30) {

@@ -109,7 +109,8 @@ typedef struct VareffectCallAnswer {
   int64_t protein_start;                /* codon number from 1, 0 where absent */
   int64_t ref_codon, alt_codon;         /* length + 256 * first byte + 65536 * second + 16777216 * third; 0 where absent */
   int64_t changed;                      /* place of the changed base in the codon */
-  int64_t letters; /* 1 + 256 * letter, or 2 + 256 * reference + 65536 * altered; 0 where absent */
+  int64_t letters; /* 1 + 256 * letter, or 2 + 256 * reference + 65536 * altered; 0 where absent. NCBI's genetic code table 1,
+                      on chromosome 25 table 2 */
   int64_t terms;   /* bit (severity rank - 1) for each term */
 } VareffectCallAnswer;
 

@@ -1,7 +1,7 @@
-//! Bases of a window: codons that start, stop or nearly do so are frequent,
-//! and so are bytes that are no base.
+//! Bases of a window: codons that start, stop or nearly do so are frequent, on
+//! chromosome 25 those of its own code, and so are bytes that are no base.
 
-use super::record::Tx;
+use super::record::{MITOCHONDRIAL, Tx};
 use super::rng::Rng;
 use super::shape::coding_bases;
 use crate::codon::complement;
@@ -13,6 +13,8 @@ const NEAR_STOPS: [&[u8; 3]; 12] = [
 ];
 /// One base away from TGA.
 const NEAR_TGA: [&[u8; 3]; 6] = [b"TGG", b"TGC", b"CGA", b"GGA", b"TCA", b"TAA"];
+/// Read otherwise by the mitochondrial code.
+const DIFFERENT: [&[u8; 3]; 4] = [b"AGA", b"AGG", b"ATA", b"TGA"];
 /// Lower case, other letters, blanks, zero, and bytes over 127, among them
 /// those that are letters with two cases in Latin-1.
 const ODD: [u8; 20] = [
@@ -24,9 +26,22 @@ fn base(rng: &mut Rng) -> u8 {
     rng.pick(b"ACGT")
 }
 
+/// A codon that decides on chromosome 25: codon 1 as a start, else one of the
+/// four that differ, or one a base away.
+fn mitochondrial(rng: &mut Rng, number: u32) -> [u8; 3] {
+    if number == 1 {
+        return *rng.pick(&[b"ATG", b"ATA"]);
+    }
+    let mut codon = *rng.pick(&DIFFERENT);
+    if rng.chance(60) {
+        codon[rng.below(3) as usize] = base(rng);
+    }
+    codon
+}
+
 /// `partial` is for a padded or unfinished codon, whose bytes are shown
 /// whatever they are.
-fn codon(rng: &mut Rng, number: u32, sec: bool, partial: bool) -> [u8; 3] {
+fn codon(rng: &mut Rng, number: u32, mito: bool, sec: bool, partial: bool) -> [u8; 3] {
     if partial && rng.chance(60) {
         return [(); 3].map(|_| {
             if rng.chance(50) {
@@ -35,6 +50,9 @@ fn codon(rng: &mut Rng, number: u32, sec: bool, partial: bool) -> [u8; 3] {
                 base(rng)
             }
         });
+    }
+    if mito && !sec && rng.chance(60) {
+        return mitochondrial(rng, number);
     }
     let random = [base(rng), base(rng), base(rng)];
     let choice = rng.below(100);
@@ -79,7 +97,8 @@ pub fn fill(rng: &mut Rng, tx: &Tx, first: u32, length: u32, pad: u32, sec: &[u3
         if i == 0 || offset % 3 == 0 {
             let number = offset / 3 + 1;
             let partial = i == 0 && pad > 0 || offset + 3 > total;
-            current = codon(rng, number, sec.contains(&number), partial);
+            let mito = tx.chrom == MITOCHONDRIAL;
+            current = codon(rng, number, mito, sec.contains(&number), partial);
         }
         let byte = current[(offset % 3) as usize];
         if let Some(place) = at.checked_sub(first)

@@ -1,4 +1,4 @@
-//! One line of the listing: refusals 14 to 21 of a call, and the Rust's columns.
+//! One line of the listing: a call's refusals 14 to 19 and 21, and the Rust's columns.
 
 use super::answer::Subject;
 use super::call::call_refusal;
@@ -35,21 +35,14 @@ impl Window {
     }
 }
 
-/// The Rust's result, or the refusal of the call: 14 to 18 and 20 are document 01's.
-pub fn judged(
-    subject: &Subject,
-    window: &Window,
-    call: &Call,
-) -> Result<ConsequenceResult, u8> {
+/// The Rust's result, or the refusal of the call: 14 to 18 are document 01's.
+pub fn judged(subject: &Subject, window: &Window, call: &Call) -> Result<ConsequenceResult, u8> {
     let own = subject.tx.chrom;
     if call.position >= u64::from(QUERY_LIMIT) {
         return Err(15);
     }
     if call.chromosome != own || window.chromosome != own {
         return Err(14);
-    }
-    if own == 25 {
-        return Err(20);
     }
     if !b"ACGT".contains(&call.alt) || call.alt == call.reference {
         return Err(16);

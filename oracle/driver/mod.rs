@@ -6,6 +6,8 @@ mod ask;
 mod bases;
 mod call;
 mod call_line;
+mod call_shapes;
+mod call_windows;
 mod deck;
 mod deck_record;
 mod list_calls;

@@ -7,6 +7,9 @@ pub const COORDINATE_LIMIT: u32 = 1_000_000_000;
 /// The limit of document 01 on start and end of a query.
 pub const QUERY_LIMIT: u32 = 1_000_010_000;
 
+/// The chromosome that has a genetic code of its own.
+pub const MITOCHONDRIAL: u16 = 25;
+
 /// The first byte of a block; `LISTS` of listfile.py has the same order.
 #[derive(Clone, Copy)]
 pub enum Kind {
@@ -41,7 +44,7 @@ pub fn chrom_name(number: u16) -> String {
     match number {
         23 => "chrX".to_string(),
         24 => "chrY".to_string(),
-        25 => "chrM".to_string(),
+        MITOCHONDRIAL => "chrM".to_string(),
         n => format!("chr{n}"),
     }
 }

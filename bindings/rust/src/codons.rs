@@ -64,7 +64,8 @@ impl Codons {
     }
 }
 
-/// The letters of the two codons: `*` stop, `U` selenocysteine, `X` unknown.
+/// The letters of the two codons, by NCBI's genetic code table 1, on chromosome
+/// 25 by table 2: `*` stop, `U` selenocysteine, `X` unknown.
 ///
 /// ```
 /// use vareffect_proved::{AminoAcids, Call, example};

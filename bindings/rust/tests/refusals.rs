@@ -72,10 +72,21 @@ fn calls() {
     assert_eq!(asked(Window { first: 6_000, ..WINDOW }, 6_000, b'A', b'C'), 19);
     let narrow = Window { first: 111, bases: &WINDOW.bases[11..12], ..WINDOW };
     assert_eq!(asked(narrow, 111, b'T', b'C'), 21);
-    let mitochondrial = Transcript { model: Model { chromosome: 25, ..TRANSCRIPT.model }, ..TRANSCRIPT };
-    let call = Call { chromosome: 25, position: 111, ref_base: b'T', alt_base: b'C' };
-    let window = Window { chromosome: 25, ..WINDOW };
-    assert_eq!(mitochondrial.call(window, call), Err(Refusal::new(20)));
+}
+
+/// 20 is retired: chromosome 25 is answered, where ATA reads M as ATG does.
+#[rustfmt::skip]
+#[test]
+fn mitochondrial_calls() {
+    let told = |chromosome, alt_base| {
+        let t = Transcript { model: Model { chromosome, ..TRANSCRIPT.model }, ..TRANSCRIPT };
+        let call = Call { chromosome, position: 112, ref_base: b'G', alt_base };
+        let answer = t.call(Window { chromosome, ..WINDOW }, call).map_err(|refusal| refusal.number)?;
+        Ok((answer.amino_acids, answer.consequences.names().collect::<Vec<&str>>()))
+    };
+    assert_eq!(told(25, b'A'), Ok((Some(AminoAcids::One(b'M')), vec!["start_retained_variant"])));
+    assert_eq!(told(24, b'A'), Ok((Some(AminoAcids::Change(b'M', b'I')), vec!["start_lost"])));
+    assert_eq!(told(25, b'N'), Err(16));
 }
 
 #[test]

@@ -1,3 +1,4 @@
 pub mod BaseNumbers
 pub mod Index
 pub mod Replaced
+pub mod Stored

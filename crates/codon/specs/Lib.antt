@@ -3,3 +3,4 @@ pub mod Table
 pub mod Altered
 pub mod Display
 pub mod claims
+pub mod code

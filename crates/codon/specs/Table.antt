@@ -6,6 +6,7 @@ use lib.ListN.{getD}
 use lib.Dec.{eqb, ltb}
 use Rattle.common.specs.Text.{byte, bytes}
 use Rattle.codon.specs.declared.Codon.{Codon}
+use Rattle.codon.specs.declared.GeneticCode.{GeneticCode}
 use Rattle.codon.specs.declared.table.CodonIndex.{CodonIndex}
 use Rattle.codon.specs.declared.table.CodonIndex.the-variants.{Numbered, NoCodon}
 use Rattle.codon.specs.Bases.{baseNumber}
@@ -13,6 +14,15 @@ use Rattle.codon.specs.Bases.{baseNumber}
 -- the standard code, NCBI table 1: the letter of a codon stands at 16 * first + 4 * second + third
 unfoldable pub standardTable : List ℕ
 standardTable = bytes "KNKNTTTTRSRSIIMIQHQHPPPPRRRRLLLLEDEDAAAAGGGGVVVV*Y*YSSSS*CWCLFLF"
+
+-- the vertebrate mitochondrial code, NCBI table 2, in the same order
+unfoldable pub mitochondrialTable : List ℕ
+mitochondrialTable = bytes "KNKNTTTT*S*SMIMIQHQHPPPPRRRRLLLLEDEDAAAAGGGGVVVV*Y*YSSSSWCWCLFLF"
+
+-- the letters of a genetic code
+abbrev pub codeTable : GeneticCode → List ℕ
+codeTable GeneticCode.Standard = standardTable
+codeTable GeneticCode.VertebrateMitochondrial = mitochondrialTable
 
 -- the place of a codon in the table by the numbers of its bytes, none where one is over 3
 abbrev pub indexBy : (ℕ → ℕ) → Codon → CodonIndex

@@ -1,19 +1,20 @@
-// A codon with one base replaced, and its letter.
+// A codon with one base replaced, and the letters of all such codons.
 use crate::Codon;
+use crate::GeneticCode;
 use crate::bases::base_number;
-use crate::table::CodonIndex;
-use crate::table::codon_to_index;
-use crate::table::translate_codon;
 ghost use mathlib.Core.Path.{_≡_};
-ghost use Prim.Native.Nat.{_+_, _*_, _<_};
-ghost use Rattle.codon.specs.Altered.{alteredLetter};
+ghost use mathlib.Core.List.{List};
+ghost use Prim.Native.Nat.{ℕ, _+_, _*_, _≤_, _<_};
+ghost use lib.ListN.{length};
 ghost use Rattle.codon.specs.declared.Codon.{Codon};
 ghost use Rattle.codon.specs.declared.table.CodonIndex.the-variants.{Numbered};
-ghost use Rattle.codon.specs.Table.{standardTable, codonToIndex, translateCodon, buildAltCodon};
+ghost use Rattle.codon.specs.Table.{codeTable, codonToIndex, translateCodon, buildAltCodon};
+ghost use Rattle.codon.specs.Altered.{alteredLetter};
+ghost use Rattle.codon.specs.code.Letters.{codeNumber, AlteredLetters, BothLetters};
 
-// The letter of each codon with each place replaced by each base: entry 256 * place + 4 * codon + base. In this order the compiler lays
-// the table out by whole words.
-const ALTERED_LETTERS: [u8; 768] = *b"\
+// The letter of each codon with each place replaced by each base, in each genetic code: entry 768 * code + 256 * place + 4 * codon + base.
+// In this order the compiler lays the table out by whole words.
+const ALTERED_LETTERS: [u8; 1536] = *b"\
 KQE*NHDYKQE*NHDYTPASTPASTPASTPASRRG*SRGCRRGWSRGCILVLILVFMLVLILVFKQE*NHDYKQE*NHDYTPASTPASTPASTPAS\
 RRG*SRGCRRGWSRGCILVLILVFMLVLILVFKQE*NHDYKQE*NHDYTPASTPASTPASTPASRRG*SRGCRRGWSRGCILVLILVFMLVLILVF\
 KQE*NHDYKQE*NHDYTPASTPASTPASTPASRRG*SRGCRRGWSRGCILVLILVFMLVLILVFKTRINTSIKTRMNTSIKTRINTSIKTRMNTSI\
@@ -21,7 +22,15 @@ KTRINTSIKTRMNTSIKTRINTSIKTRMNTSIQPRLHPRLQPRLHPRLQPRLHPRLQPRLHPRLQPRLHPRLQPRLHPRL
 EAGVDAGVEAGVDAGVEAGVDAGVEAGVDAGVEAGVDAGVEAGVDAGVEAGVDAGVEAGVDAGV*S*LYSCF*SWLYSCF*S*LYSCF*SWLYSCF\
 *S*LYSCF*SWLYSCF*S*LYSCF*SWLYSCFKNKNKNKNKNKNKNKNTTTTTTTTTTTTTTTTRSRSRSRSRSRSRSRSIIMIIIMIIIMIIIMI\
 QHQHQHQHQHQHQHQHPPPPPPPPPPPPPPPPRRRRRRRRRRRRRRRRLLLLLLLLLLLLLLLLEDEDEDEDEDEDEDEDAAAAAAAAAAAAAAAA\
-GGGGGGGGGGGGGGGGVVVVVVVVVVVVVVVV*Y*Y*Y*Y*Y*Y*Y*YSSSSSSSSSSSSSSSS*CWC*CWC*CWC*CWCLFLFLFLFLFLFLFLF";
+GGGGGGGGGGGGGGGGVVVVVVVVVVVVVVVV*Y*Y*Y*Y*Y*Y*Y*YSSSSSSSSSSSSSSSS*CWC*CWC*CWC*CWCLFLFLFLFLFLFLFLF\
+KQE*NHDYKQE*NHDYTPASTPASTPASTPAS*RGWSRGC*RGWSRGCMLVLILVFMLVLILVFKQE*NHDYKQE*NHDYTPASTPASTPASTPAS\
+*RGWSRGC*RGWSRGCMLVLILVFMLVLILVFKQE*NHDYKQE*NHDYTPASTPASTPASTPAS*RGWSRGC*RGWSRGCMLVLILVFMLVLILVF\
+KQE*NHDYKQE*NHDYTPASTPASTPASTPAS*RGWSRGC*RGWSRGCMLVLILVFMLVLILVFKT*MNTSIKT*MNTSIKT*MNTSIKT*MNTSI\
+KT*MNTSIKT*MNTSIKT*MNTSIKT*MNTSIQPRLHPRLQPRLHPRLQPRLHPRLQPRLHPRLQPRLHPRLQPRLHPRLQPRLHPRLQPRLHPRL\
+EAGVDAGVEAGVDAGVEAGVDAGVEAGVDAGVEAGVDAGVEAGVDAGVEAGVDAGVEAGVDAGV*SWLYSCF*SWLYSCF*SWLYSCF*SWLYSCF\
+*SWLYSCF*SWLYSCF*SWLYSCF*SWLYSCFKNKNKNKNKNKNKNKNTTTTTTTTTTTTTTTT*S*S*S*S*S*S*S*SMIMIMIMIMIMIMIMI\
+QHQHQHQHQHQHQHQHPPPPPPPPPPPPPPPPRRRRRRRRRRRRRRRRLLLLLLLLLLLLLLLLEDEDEDEDEDEDEDEDAAAAAAAAAAAAAAAA\
+GGGGGGGGGGGGGGGGVVVVVVVVVVVVVVVV*Y*Y*Y*Y*Y*Y*Y*YSSSSSSSSSSSSSSSSWCWCWCWCWCWCWCWCLFLFLFLFLFLFLFLF";
 
 // The codon with the base at a place, 0 to 2, replaced; at another place none is.
 pub fn build_alt_codon(c: Codon, place: u8, b: u8) -> Codon
@@ -47,38 +56,57 @@ pub fn build_alt_codon(c: Codon, place: u8, b: u8) -> Codon
     }
 }
 
-// The entry of a codon's place, a place in the codon and a base number.
-fn altered_letter(codon: u8, place: u8, base: u8) -> u8
-    requires { ⌜ (codon < 64) × (place < 3) × (base < 4) ⌝ }
-    ensures { λ r. ⌜ r ≡ alteredLetter standardTable (codon * 12 + place * 4 + base) ⌝ }
+// The letters of both genetic codes. A constant is laid out wherever it is read: who asks for many letters asks once for these, and
+// lends the part of a code.
+pub fn altered_letters() -> [u8; 1536]
+    ensures { λ r. ⌜ BothLetters r ⌝ }
 {
-    ALTERED_LETTERS[place as usize * 256 + codon as usize * 4 + base as usize]
+    ALTERED_LETTERS
 }
 
-// The letter of the codon of that number with the base at a place replaced, read from the table of altered letters.
-pub(crate) fn altered_letter_at(codon: u8, place: u8, b: u8) -> u8
+// Where the letters of a code begin.
+fn letters_from(code: GeneticCode) -> usize
+    ensures { λ r. ⌜ r ≡ 768 * codeNumber code ⌝ }
+{
+    match code {
+        GeneticCode::Standard => 0,
+        GeneticCode::VertebrateMitochondrial => 768,
+    }
+}
+
+// The letters of one code.
+pub fn letters_of(both: &[u8; 1536], code: GeneticCode) -> &[u8]
+    requires { ⌜ BothLetters (now both) ⌝ }
+    ensures { λ r. ⌜ AlteredLetters (codeTable code) (now r) ⌝ }
+{
+    let all = &both[..];
+    let from = letters_from(code);
+    &all[from..]
+}
+
+// The entry of a codon's place, a place in the codon and a base number.
+pub(crate) fn altered_letter(letters: &[u8], codon: u8, place: u8, base: u8) -> u8
+    requires { ⌜ 768 ≤ length (now letters) ⌝ }
+    requires { ⌜ (codon < 64) × (place < 3) × (base < 4) ⌝ }
+    ensures { λ r. ⌜ ((table : List ℕ)
+        → AlteredLetters table (now letters.entry)
+        → r ≡ alteredLetter table (codon * 12 + place * 4 + base)) ⌝ }
+{
+    letters[place as usize * 256 + codon as usize * 4 + base as usize]
+}
+
+// The letter of the codon of that number with the base at a place replaced.
+pub(crate) fn altered_letter_at(letters: &[u8], codon: u8, place: u8, b: u8) -> u8
+    requires { ⌜ 768 ≤ length (now letters) ⌝ }
     requires { ⌜ (codon < 64) × (place < 3) ⌝ }
-    ensures { λ r. ⌜ ((c : Codon)
+    ensures { λ r. ⌜ ((table : List ℕ) (c : Codon)
+        → AlteredLetters table (now letters.entry)
         → codonToIndex c ≡ Numbered codon
-        → r ≡ translateCodon standardTable (buildAltCodon c place b)) ⌝ }
+        → r ≡ translateCodon table (buildAltCodon c place b)) ⌝ }
 {
     let base = base_number(b);
     if base > 3 {
         return b'X';
     }
-    altered_letter(codon, place, base)
-}
-
-// The letter of the codon with the base at a place replaced.
-pub fn translate_altered_codon(c: Codon, place: u8, b: u8) -> u8
-    ensures { λ r. ⌜ r ≡ translateCodon standardTable (buildAltCodon c place b) ⌝ }
-{
-    if place > 2 {
-        return translate_codon(c);
-    }
-    // The base that stood at the place does not matter: A stands for it.
-    let CodonIndex::Numbered(codon) = codon_to_index(build_alt_codon(c, place, b'A')) else {
-        return b'X';
-    };
-    altered_letter_at(codon, place, b)
+    altered_letter(letters, codon, place, base)
 }

@@ -1,19 +1,27 @@
-// Base numbers, the genetic code, and the letters of a codon and of a codon with one base replaced.
+// Base numbers, the genetic codes, and the letters of a codon and of a codon with one base replaced.
 mod altered;
 mod bases;
 mod display;
 mod table;
 mod translate;
 
+pub use altered::altered_letters;
 pub use altered::build_alt_codon;
-pub use altered::translate_altered_codon;
+pub use altered::letters_of;
 pub use bases::base_number;
 pub use bases::complement;
 pub use bases::is_base;
 pub use display::format_amino_acids;
 pub use table::translate_codon;
 pub use table::translate_reference_codon;
+pub use translate::translate_altered_codon;
 pub use translate::translate_codons;
+
+// NCBI's tables 1 and 2.
+pub enum GeneticCode {
+    Standard,
+    VertebrateMitochondrial,
+}
 
 // The bases of one codon in coding order: three, or the one or two of an unfinished last codon. A base that is not there is 0.
 pub struct Codon {

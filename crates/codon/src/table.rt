@@ -1,10 +1,11 @@
-// The genetic code: the letter of a codon.
+// The genetic codes: the letter of a codon.
 use crate::Codon;
+use crate::GeneticCode;
 use crate::bases::base_number;
 ghost use mathlib.Core.Path.{_≡_};
 ghost use Prim.Native.Nat.{_<_};
 ghost use Rattle.codon.specs.declared.table.CodonIndex.the-variants.{Numbered};
-ghost use Rattle.codon.specs.Table.{standardTable, codonToIndex, letterAt, translateCodon, isTga, referenceLetter, translateReferenceCodon};
+ghost use Rattle.codon.specs.Table.{codeTable, codonToIndex, letterAt, translateCodon, isTga, referenceLetter, translateReferenceCodon};
 
 // The place of a codon in a code table, 0 to 63.
 pub(crate) enum CodonIndex {
@@ -18,6 +19,13 @@ KNKNTTTTRSRSIIMI\
 QHQHPPPPRRRRLLLL\
 EDEDAAAAGGGGVVVV\
 *Y*YSSSS*CWCLFLF";
+
+// NCBI table 2, in the same order.
+const MITOCHONDRIAL_TABLE: [u8; 64] = *b"\
+KNKNTTTT*S*SMIMI\
+QHQHPPPPRRRRLLLL\
+EDEDAAAAGGGGVVVV\
+*Y*YSSSSWCWCLFLF";
 
 // The place of a codon in the table, none where a byte is not A, C, G or T.
 pub(crate) fn codon_to_index(c: Codon) -> CodonIndex
@@ -38,22 +46,25 @@ pub(crate) fn codon_to_index(c: Codon) -> CodonIndex
     CodonIndex::Numbered(first * 16 + second * 4 + third)
 }
 
-// The letter at a place of the table.
-pub(crate) fn letter_at(n: u8) -> u8
+// The letter at a place of a code's table.
+fn letter_at(code: GeneticCode, n: u8) -> u8
     requires { ⌜ n < 64 ⌝ }
-    ensures { λ r. ⌜ r ≡ letterAt standardTable (Numbered n) ⌝ }
+    ensures { λ r. ⌜ r ≡ letterAt (codeTable code) (Numbered n) ⌝ }
 {
-    STANDARD_TABLE[n as usize]
+    match code {
+        GeneticCode::Standard => STANDARD_TABLE[n as usize],
+        GeneticCode::VertebrateMitochondrial => MITOCHONDRIAL_TABLE[n as usize],
+    }
 }
 
 // The letter of a codon, X where a byte is not A, C, G or T.
-pub fn translate_codon(c: Codon) -> u8
-    ensures { λ r. ⌜ r ≡ translateCodon standardTable c ⌝ }
+pub fn translate_codon(code: GeneticCode, c: Codon) -> u8
+    ensures { λ r. ⌜ r ≡ translateCodon (codeTable code) c ⌝ }
 {
     let CodonIndex::Numbered(n) = codon_to_index(c) else {
         return b'X';
     };
-    letter_at(n)
+    letter_at(code, n)
 }
 
 fn is_tga(c: Codon) -> bool
@@ -79,8 +90,8 @@ pub(crate) fn reference_letter(selenocysteine: bool, c: Codon, letter: u8) -> u8
 }
 
 // The letter of a reference codon.
-pub fn translate_reference_codon(selenocysteine: bool, c: Codon) -> u8
-    ensures { λ r. ⌜ r ≡ translateReferenceCodon standardTable selenocysteine c ⌝ }
+pub fn translate_reference_codon(code: GeneticCode, selenocysteine: bool, c: Codon) -> u8
+    ensures { λ r. ⌜ r ≡ translateReferenceCodon (codeTable code) selenocysteine c ⌝ }
 {
-    reference_letter(selenocysteine, c, translate_codon(c))
+    reference_letter(selenocysteine, c, translate_codon(code, c))
 }

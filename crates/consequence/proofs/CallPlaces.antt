@@ -9,7 +9,6 @@ use lib.Dec.{eqb}
 use borrow.Author.Tests.{eqb-true, not-false}
 use Rattle.common.specs.Refuse.{refuse}
 use Rattle.common.proofs.TestParts.{on-test, refuse-none, or-else-none}
-use Rattle.transcript.specs.Limits.{mitochondrial}
 use Rattle.transcript.specs.Transcript.{Transcript}
 use Rattle.transcript.specs.Orient.{Oriented, orientBase, oriented}
 use Rattle.transcript.specs.Admission.{admission, Admitted}
@@ -54,7 +53,7 @@ module _ (r : Ranges) (t : Transcript) (w : Window) (q : Call) (a : ConsequenceR
   abbrev away : Bool
   away = isElsewhere t (q .chromosome) || isElsewhere t (w .chromosome)
 
-  opened : Admitted t × (queryRefusal (badInterval (q .position) (q .position + 1)) away (refuse (eqb (q .chromosome) mitochondrial) 20 (refuse (badAlt q) 16 (windowRefusal w q))) ≡ 0)
+  opened : Admitted t × (queryRefusal (badInterval (q .position) (q .position + 1)) away (refuse (badAlt q) 16 (windowRefusal w q)) ≡ 0)
   unfolding openingRefusal
   opened = or-else-none (admission t) _ (answers .0)
 
@@ -66,8 +65,7 @@ module _ (r : Ranges) (t : Transcript) (w : Window) (q : Call) (a : ConsequenceR
   call-window =
       let s = refuse-none (badInterval (q .position) (q .position + 1)) 15 _ (omega arith) (opened .1) in
       let c = refuse-none away 14 _ (omega arith) (s .1) in
-      let m = refuse-none (eqb (q .chromosome) mitochondrial) 20 _ (omega arith) (c .1) in
-      let b = refuse-none (badAlt q) 16 (windowRefusal w q) (omega arith) (m .1) in
+      let b = refuse-none (badAlt q) 16 (windowRefusal w q) (omega arith) (c .1) in
       let i = refuse-none (not (inWindow w (q .position))) 17 _ (omega arith) (b .1) in
       let e = refuse-none (not (eqb (q .«ref_base») (byteAt w (q .position)))) 18 0 (omega arith) (i .1) in
       (not-false (inWindow w (q .position)) (i .0), eqb-true (q .«ref_base») (byteAt w (q .position)) (not-false (eqb (q .«ref_base») (byteAt w (q .position))) (e .0)))

@@ -7,7 +7,6 @@ use native.Mathlib.Omega.{arith}
 use lib.Dec.{eqb}
 use borrow.Author.Tests.{ne-eqb}
 use Rattle.common.specs.Refuse.{orElse}
-use Rattle.codon.specs.Table.{standardTable}
 use Rattle.transcript.specs.Transcript.{Transcript}
 use Rattle.transcript.specs.Orient.{interval, orientBase, oriented}
 use Rattle.transcript.specs.Admission.{admission}
@@ -24,7 +23,7 @@ use Rattle.consequence.specs.declared.ConsequenceResult.{ConsequenceResu
 use Rattle.consequence.specs.Window.{Window, windowFrom, baseAt, codingByte}
 use Rattle.consequence.specs.Reading.{cdsBase, fetchBases}
 use Rattle.consequence.specs.Answer.{placeResult}
-use Rattle.consequence.specs.Call.{addSpliceSpill, callPlace, callCodon, lacksCodon, openingRefusal, closingRefusal, callRefusal, callResult, annotateSnv}
+use Rattle.consequence.specs.Call.{callTable, addSpliceSpill, callPlace, callCodon, lacksCodon, openingRefusal, closingRefusal, callRefusal, callResult, annotateSnv}
 use Rattle.consequence.specs.code.AtPlace.{placeCalled}
 
 -- the spill added to an answer
@@ -71,11 +70,11 @@ module _ (r : Ranges) (t : Transcript) (w : Window) (q : Call) where
 
   -- the answer at the place with its spill
   pub answered : openingRefusal t w q ≡ 0 → (p : ℕ) → p ≡ base → (place : VariantLocation) → place ≡ locate r (oriented t) p
-      → (x : Called) → x ≡ placeCalled standardTable (oriented t) p (codingByte (t .model .strand) (q .«alt_base»)) (callCodon t (windowFrom (w .first) (w .bytes))) place
+      → (x : Called) → x ≡ placeCalled (callTable t) (oriented t) p (codingByte (t .model .strand) (q .«alt_base»)) (callCodon t (windowFrom (w .first) (w .bytes))) place
       → (s : SpliceSpill) → s ≡ spill p → spilled s x ≡ annotateSnv r t w q
   unfolding annotateSnv callRefusal callResult placeCalled
   answered h p ep place el x ex s es =
       (λ k. spilled (es k) (ex k))
-      ∙ (λ k. spilled (spill p) (placeCalled standardTable (oriented t) p (codingByte (t .model .strand) (q .«alt_base»)) (codon-read k) (el k)))
-      ∙ ap (λ (n : ℕ). spilled (spill n) (placeCalled standardTable (oriented t) n (codingByte (t .model .strand) (q .«alt_base»)) (callCodon t w) (locate r (oriented t) n))) ep
-      ∙ rw h (spilled-cond (spill base) (eqb closing 0) (placeResult standardTable (oriented t) base (codingByte (t .model .strand) (q .«alt_base»)) (callCodon t w) (callPlace r t q)) closing)
+      ∙ (λ k. spilled (spill p) (placeCalled (callTable t) (oriented t) p (codingByte (t .model .strand) (q .«alt_base»)) (codon-read k) (el k)))
+      ∙ ap (λ (n : ℕ). spilled (spill n) (placeCalled (callTable t) (oriented t) n (codingByte (t .model .strand) (q .«alt_base»)) (callCodon t w) (locate r (oriented t) n))) ep
+      ∙ rw h (spilled-cond (spill base) (eqb closing 0) (placeResult (callTable t) (oriented t) base (codingByte (t .model .strand) (q .«alt_base»)) (callCodon t w) (callPlace r t q)) closing)

@@ -2,23 +2,14 @@
 -- Assumes nothing.
 use Prim.Native.Nat.{ℕ, _+_, _-_, _%_, _≤_, _<_}
 use mathlib.Core.Path.{_≡_, ap, _∙_}
-use mathlib.Core.Bool.{true, false}
 use lib.Dec.{eqb, leb}
 use borrow.Author.Tests.{lt-ltb, le-ltb, eqb-true, leb-true, leb-false}
 use Rattle.common.proofs.TestParts.{on-test}
 use native.Mathlib.Omega.{arith}
-use Rattle.codon.specs.declared.Codon.{Codon}
-use Rattle.codon.specs.declared.Codons.{Codons}
-use Rattle.codon.specs.declared.AminoAcids.{AminoAcids}
-use Rattle.terms.specs.Terms.{only}
-use Rattle.terms.specs.Coding.{codingTerm}
 use Rattle.transcript.specs.Orient.{Oriented}
 use Rattle.consequence.specs.declared.FetchedBase.{FetchedBase}
 use Rattle.consequence.specs.declared.FetchedCodon.{FetchedCodon}
-use Rattle.consequence.specs.declared.Counted.{Counted}
 use Rattle.consequence.specs.Reading.{cdsBase, lengthAt, codonLength, fetchBases, fetchCodon}
-use Rattle.consequence.specs.Coding.{isStartCodon, showsCodon, shownLetters}
-use Rattle.consequence.specs.Answer.{Columns, wholeCodon}
 
 -- the bases of a codon lie within the CDS
 pub length-within : (total k : ℕ) → k < total → k - k % 3 + lengthAt total k ≤ total
@@ -58,14 +49,3 @@ module _ (t : Oriented) (view : ℕ → FetchedBase) (k n : ℕ) (q : n ≡ codo
       pub three-bases : (z : ℕ) → 3 ≤ n → cdsBase t view (k - k % 3 + 2) ≡ FetchedBase.Base z → FetchedCodon.Bases (record { len = n; first = x; second = y; third = z }) ≡ fetchCodon t view k
       unfolding fetchBases
       three-bases z h g = whole (rw (ex, lt-ltb 1 n (omega arith), ey, lt-ltb 2 n (omega arith), g))
-
-module _ (t : Oriented) (o n : ℕ) (c a : Codon) (k ref alt : ℕ) (letters : AminoAcids) (terms : ℕ) where
-  pub codon-shown :
-      showsCodon t n ref ≡ true → letters ≡ shownLetters t n ref alt → terms ≡ only (codingTerm (isStartCodon t n) ref alt) →
-      _≡_ {A = Columns} (record { position = Counted.At (o + 1); number = Counted.At n; codons = Codons.Change c a k; letters = letters; terms = terms }) (wholeCodon t o n c a k ref alt)
-  codon-shown e l h = rw (e, l, h)
-
-  pub codon-hidden :
-      showsCodon t n ref ≡ false → letters ≡ shownLetters t n ref alt → terms ≡ only (codingTerm (isStartCodon t n) ref alt) →
-      _≡_ {A = Columns} (record { position = Counted.At (o + 1); number = Counted.Absent; codons = Codons.Absent; letters = letters; terms = terms }) (wholeCodon t o n c a k ref alt)
-  codon-hidden e l h = rw (e, l, h)

@@ -7,7 +7,6 @@ use lib.Dec.{eqb, ltb}
 use Rattle.common.specs.Refuse.{refuse, orElse}
 use Rattle.common.specs.Lists.{any, all, memb}
 use Rattle.common.proofs.TestParts.{on-test}
-use Rattle.transcript.specs.Limits.{mitochondrial}
 use Rattle.transcript.specs.Transcript.{Transcript}
 use Rattle.transcript.specs.Admission.{admission}
 use Rattle.transcript.specs.claims.Numbers.{admissionNumbers}
@@ -32,10 +31,9 @@ module _ (r : Ranges) (t : Transcript) (w : Window) (q : Call) where
       among-else callNumbers (admission t) _ (among-in admissionNumbers callNumbers refl (admission t) (admission-among t))
       (among-refuse callNumbers (badInterval (q .position) (q .position + 1)) 15 _ refl
       (among-refuse callNumbers (isElsewhere t (q .chromosome) || isElsewhere t (w .chromosome)) 14 _ refl
-      (among-refuse callNumbers (eqb (q .chromosome) mitochondrial) 20 _ refl
       (among-refuse callNumbers (badAlt q) 16 _ refl
       (among-refuse callNumbers (not (inWindow w (q .position))) 17 _ refl
-      (among-refuse callNumbers (not (eqb (q .«ref_base») (byteAt w (q .position)))) 18 0 refl refl))))))
+      (among-refuse callNumbers (not (eqb (q .«ref_base») (byteAt w (q .position)))) 18 0 refl refl)))))
 
   closing-among : (distal lacks : Bool) → memb (closingRefusal distal lacks) callNumbers ≡ true
   unfolding any

@@ -75,18 +75,13 @@ module _ (t : Transcript) (w : Window) (q : Call) (h : admission t ≡ 0) where
     is-14 a = rw (h, good-base (q .position) l, a)
 
     module _ (a : away ≡ false) where
-      pub is-20 : q .chromosome ≡ 25 → 20 ≡ openingRefusal t w q
+      pub is-16 : badAlt q ≡ true → 16 ≡ openingRefusal t w q
       unfolding openingRefusal
-      is-20 c = rw (h, good-base (q .position) l, a, eq-eqb (q .chromosome) 25 c)
+      is-16 b = rw (h, good-base (q .position) l, a, b)
 
-      module _ (c : q .chromosome ≡ 25 → ⊥) where
-        pub is-16 : badAlt q ≡ true → 16 ≡ openingRefusal t w q
-        unfolding openingRefusal
-        is-16 b = rw (h, good-base (q .position) l, a, ne-eqb (q .chromosome) 25 c, b)
-
-        pub by-window : badAlt q ≡ false → windowRefusal w q ≡ openingRefusal t w q
-        unfolding openingRefusal
-        by-window b = rw (h, good-base (q .position) l, a, ne-eqb (q .chromosome) 25 c, b)
+      pub by-window : badAlt q ≡ false → windowRefusal w q ≡ openingRefusal t w q
+      unfolding openingRefusal
+      by-window b = rw (h, good-base (q .position) l, a, b)
 
   -- a call that is not refused so far asks within the limit
   pub opening-within : openingRefusal t w q ≡ 0 → q .position ≤ queryLimit

@@ -10,7 +10,7 @@ use borrow.Author.Tests.{eqb-false, eq-eqb}
 use Rattle.common.proofs.TestParts.{on-test, true-false}
 use Rattle.codon.specs.declared.Codon.{Codon}
 use Rattle.codon.specs.declared.Codons.{Codons}
-use Rattle.codon.specs.Table.{standardTable, translateReferenceCodon, buildAltCodon}
+use Rattle.codon.specs.Table.{translateReferenceCodon, buildAltCodon}
 use Rattle.transcript.specs.Orient.{Oriented, orientBase, oriented}
 use Rattle.transcript.specs.Bases.{firstStart, lastEnd}
 use Rattle.footprint.specs.declared.Ranges.{Ranges}
@@ -27,7 +27,7 @@ use Rattle.consequence.specs.Window.{codingByte}
 use Rattle.consequence.specs.Reading.{isIncompleteTerminalCodon, holdsSelenocysteine}
 use Rattle.consequence.specs.Coding.{showsCodon}
 use Rattle.consequence.specs.Answer.{codonColumns, placeResult}
-use Rattle.consequence.specs.Call.{callPlace, callCodon, callResult}
+use Rattle.consequence.specs.Call.{callTable, callPlace, callCodon, callResult}
 use Rattle.consequence.specs.claims.Codons.{codonByte, ShownCodons}
 use Rattle.consequence.proofs.CallPlaces.{answers, call-location}
 use Rattle.consequence.proofs.CodonHolds.{codonHoldsBase}
@@ -137,7 +137,7 @@ shownCodons r t w q a c d k h e =
     let p = orientBase (t .model .strand) (q .position) in
     let alt = codingByte (t .model .strand) (q .«alt_base») in
     let loc = call-location r t w q a h in
-    let x = by-place c d k standardTable (oriented t) p alt (callCodon t w) (callPlace r t q) (sym (ap (λ (b : ConsequenceResult). b .codons) (answers r t w q a h .1)) ∙ e) in
+    let x = by-place c d k (callTable t) (oriented t) p alt (callCodon t w) (callPlace r t q) (sym (ap (λ (b : ConsequenceResult). b .codons) (answers r t w q a h .1)) ∙ e) in
     let s = x .1 in
     let i = place-in r (oriented t) p (x .0) in
     let g = ap placeOffset loc in

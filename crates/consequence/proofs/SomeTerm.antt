@@ -9,7 +9,7 @@ use lib.Dec.{eqb}
 use borrow.Author.Tests.{eqb-true}
 use Rattle.common.specs.Refuse.{refuse}
 use Rattle.common.proofs.TestParts.{on-test, or-else-none}
-use Rattle.codon.specs.Table.{standardTable, translateCodon, translateReferenceCodon, buildAltCodon}
+use Rattle.codon.specs.Table.{translateCodon, translateReferenceCodon, buildAltCodon}
 use Rattle.transcript.specs.Transcript.{Transcript}
 use Rattle.transcript.specs.Orient.{Oriented, orientBase, oriented}
 use Rattle.footprint.specs.declared.Ranges.{Ranges}
@@ -33,7 +33,7 @@ use Rattle.consequence.specs.Coding.{isStartCodon}
 use Rattle.consequence.specs.Region.{regionOf}
 use Rattle.consequence.specs.Answer.{Columns, codonColumns, regionColumns, codonResult, placeResult}
 use Rattle.consequence.specs.Call.{isOutside, lacksCodon, closingRefusal, openingRefusal, callRefusal}
-use Rattle.consequence.specs.Call.{callPlace, callCodon, callResult, annotateSnv}
+use Rattle.consequence.specs.Call.{callTable, callPlace, callCodon, callResult, annotateSnv}
 use Rattle.consequence.specs.claims.SomeTerm.{SomeTerm}
 use Rattle.consequence.proofs.CallPlaces.{answers}
 
@@ -99,7 +99,7 @@ module _ (r : Ranges) (t : Transcript) (w : Window) (q : Call) where
       let p = orientBase (t .model .strand) (q .position) in
       some-spilled _ _ _
       (region-some (oriented t) p (callPlace r t q) (regionOf (oriented t .coding) (callPlace r t q)) _
-      (named standardTable (oriented t) (codingByte (t .model .strand) (q .«alt_base»)) (callCodon t w) (callPlace r t q) h))
+      (named (callTable t) (oriented t) (codingByte (t .model .strand) (q .«alt_base»)) (callCodon t w) (callPlace r t q) h))
 
 pub someTerm : SomeTerm
 someTerm r t w q a h =

@@ -1,10 +1,12 @@
--- The single-base call, with its refusals: 1 to 13, then 15, 14, 20, 16, 17, 18, 19, 21.
+-- The single-base call, with its refusals: 1 to 13, then 15, 14, 16, 17, 18, 19, 21.
 use Prim.Native.Nat.{ℕ, _+_}
 use mathlib.Core.Bool.{Bool, true, false, cond, not, _&&_, _||_}
+use mathlib.Core.List.{List}
 use lib.Dec.{eqb}
 use Rattle.common.specs.Refuse.{refuse, orElse}
 use Rattle.codon.specs.Bases.{isBase}
-use Rattle.codon.specs.Table.{standardTable}
+use Rattle.codon.specs.declared.GeneticCode.{GeneticCode}
+use Rattle.codon.specs.Table.{codeTable}
 use Rattle.footprint.specs.declared.SpliceSpill.{SpliceSpill}
 use Rattle.locate.specs.declared.VariantLocation.{VariantLocation}
 use Rattle.footprint.specs.declared.Ranges.{Ranges}
@@ -38,6 +40,14 @@ addSpliceSpill s a = record {
   consequences = record { 0 = spillTerms (s .donor) (s .acceptor) (a .consequences .0) };
 }
 
+-- the genetic code of a chromosome: the vertebrate mitochondrial one of chrM, else the standard one
+abbrev pub codeOf : ℕ → GeneticCode
+codeOf chromosome = cond (eqb chromosome mitochondrial) GeneticCode.VertebrateMitochondrial GeneticCode.Standard
+
+-- the letters by which a transcript's codons are read
+abbrev pub callTable : Transcript → List ℕ
+callTable t = codeTable (codeOf (t .model .chromosome))
+
 -- the place of a call
 abbrev pub callPlace : Ranges → Transcript → Call → VariantLocation
 callPlace r t q = locate r (oriented t) (orientBase (t .model .strand) (q .position))
@@ -67,9 +77,8 @@ unfoldable pub openingRefusal : Transcript → Window → Call → ℕ
 openingRefusal t w q =
     orElse (admission t)
     (queryRefusal (badInterval (q .position) (q .position + 1)) (isElsewhere t (q .chromosome) || isElsewhere t (w .chromosome))
-    (refuse (eqb (q .chromosome) mitochondrial) 20
     (refuse (badAlt q) 16
-    (windowRefusal w q))))
+    (windowRefusal w q)))
 
 -- the refusals of a place: distal, or coding with its codon not all in the window
 abbrev pub closingRefusal : Bool → Bool → ℕ
@@ -84,7 +93,7 @@ unfoldable pub callResult : Ranges → Transcript → Window → Call → Conseq
 callResult r t w q =
     addSpliceSpill
     (exonicSpliceSpill (oriented t) (interval (orientBase (t .model .strand) (q .position)) (orientBase (t .model .strand) (q .position) + 1)))
-    (placeResult standardTable (oriented t) (orientBase (t .model .strand) (q .position)) (codingByte (t .model .strand) (q .«alt_base»)) (callCodon t w) (callPlace r t q))
+    (placeResult (callTable t) (oriented t) (orientBase (t .model .strand) (q .position)) (codingByte (t .model .strand) (q .«alt_base»)) (callCodon t w) (callPlace r t q))
 
 -- the whole answer to a call
 unfoldable pub annotateSnv : Ranges → Transcript → Window → Call → Called

@@ -13,12 +13,14 @@ use transcript::question::base_of;
 ghost use mathlib.Core.Path.{_≡_};
 ghost use Rattle.transcript.specs.Transcript.{given, wasGiven};
 ghost use Rattle.consequence.specs.Window.{windowWasGiven};
-ghost use Rattle.consequence.specs.Call.{annotateSnv};
+ghost use Rattle.consequence.specs.Call.{callTable, annotateSnv};
+ghost use Rattle.codon.specs.code.Letters.{AlteredLetters};
 ghost use Rattle.consequence.specs.code.Prepared.{Prepared};
 
-// The answer from the transcript's index, or the number of the refusal: 15, 14, 20, 16, 17, 18, 19 and 21.
+// The answer from the transcript's index, or the number of the refusal: 15, 14, 16, 17, 18, 19 and 21.
 pub fn annotate_admitted(
     ranges: Ranges,
+    letters: &[u8],
     window_chromosome: u16,
     window_first: u64,
     window: &[u8],
@@ -37,7 +39,8 @@ pub fn annotate_admitted(
     selenocysteine_codons: &[u32; 64],
 ) -> Called
     requires { let t = given model «exon_starts» «exon_ends» «seg_phases» «seg_exons» «seg_starts» «seg_ends» selenocysteine in
-        ⌜ Prepared t scalars (now «cumulative_exons») (now «cumulative_cds») (now «selenocysteine_codons») ⌝ }
+        ⌜ Prepared t scalars (now «cumulative_exons») (now «cumulative_cds») (now «selenocysteine_codons») ⌝
+        ∗ ⌜ AlteredLetters (callTable t) (now letters) ⌝ }
     ensures { λ r.
         let t = wasGiven model «exon_starts» «exon_ends» «seg_phases» «seg_exons» «seg_starts» «seg_ends» selenocysteine in
         let w = windowWasGiven «window_chromosome» «window_first» window in
@@ -71,6 +74,7 @@ pub fn annotate_admitted(
     );
     let placed = annotate_place(
         ranges,
+        letters,
         window_first,
         window,
         call.alt_base,

@@ -1,23 +1,19 @@
-// The answer for a base at a place.
+// The answer for a base outside the exons, and the splice spill.
 use super::CdnaCounted;
 use super::ConsequenceResult;
 use super::Counted;
 use super::Numbered;
-use super::columns::CodonColumns;
 use codon::AminoAcids;
 use codon::Codons;
 use footprint::SpliceSpill;
-use locate::CdnaPosition;
 use locate::VariantLocation;
 use terms::TermSet;
 use terms::spill_terms;
 ghost use mathlib.Core.Path.{_≡_};
-ghost use Prim.Native.Nat.{ℕ, _<_};
+ghost use Prim.Native.Nat.{_<_};
 ghost use lib.ListN.{length};
 ghost use Rattle.transcript.specs.Orient.{Oriented};
-ghost use Rattle.locate.specs.Place.{cdnaPosition};
-ghost use Rattle.consequence.specs.Answer.{flankResult, intronResult, exonResult};
-ghost use Rattle.consequence.specs.code.AtPlace.{columnsOf};
+ghost use Rattle.consequence.specs.Answer.{flankResult, intronResult};
 ghost use Rattle.consequence.specs.Call.{addSpliceSpill};
 
 // Outside the transcript.
@@ -88,40 +84,5 @@ pub(crate) fn add_splice_spill(s: SpliceSpill, a: ConsequenceResult) -> Conseque
         codons,
         amino_acids,
         consequences,
-    }
-}
-
-// In exon i, with what its codon gives.
-pub(crate) fn exon_result(
-    place: VariantLocation,
-    exons: u16,
-    i: u16,
-    cdna: CdnaPosition,
-    c: CodonColumns,
-    terms: TermSet,
-) -> ConsequenceResult
-    requires { ⌜ i < 65535 ⌝ }
-    ensures { λ r. ⌜ ((t : Oriented) (p : ℕ)
-        → length (t .exons) ≡ exons
-        → cdnaPosition t p ≡ cdna .0
-        → r ≡ exonResult t p place i (columnsOf c) (terms .0)) ⌝ }
-{
-    let cds_position = c.position;
-    let protein_start = c.number;
-    let codons = c.codons;
-    let amino_acids = c.letters;
-    ConsequenceResult {
-        location: place,
-        exon: Numbered::Of {
-            number: i + 1,
-            total: exons,
-        },
-        intron: Numbered::Absent,
-        cds_position,
-        cdna_position: CdnaCounted::At(cdna),
-        protein_start,
-        codons,
-        amino_acids,
-        consequences: terms,
     }
 }

@@ -1,24 +1,19 @@
-// The answer at a coding base: its codon is read and translated.
+// The answer at a coding base.
 use super::Called;
-use super::FetchedCodon;
-use super::answer::exon_result;
-use super::columns::read_codon;
-use super::letters::is_padded_codon;
-use super::letters::is_start_codon;
-use super::reading::fetch_ref_codon;
-use super::reading::is_incomplete_terminal_codon;
+use super::cds_codon::CdsCodon;
+use super::cds_codon::read_cds_codon;
+use super::exonic::coding_result;
 use super::region::with_mark;
-use super::selenocysteine::holds_selenocysteine;
-use super::window::coding_byte;
 use locate::CdsOffset;
 use locate::IndexScalars;
 use locate::VariantLocation;
 use locate::cdna_position;
 use transcript::Strand;
 ghost use mathlib.Core.Path.{_≡_};
+ghost use mathlib.Core.List.{List};
 ghost use Prim.Native.Nat.{ℕ, _-_, _+_, _<_, _≤_};
 ghost use lib.ListN.{length, getD};
-ghost use Rattle.codon.specs.Table.{standardTable};
+ghost use Rattle.codon.specs.code.Letters.{AlteredLetters};
 ghost use Rattle.transcript.specs.Limits.{top};
 ghost use Rattle.transcript.specs.Orient.{Oriented};
 ghost use Rattle.transcript.specs.code.Lent.{lentExons};
@@ -33,6 +28,7 @@ ghost use Rattle.consequence.specs.code.Segments.{Segments};
 // A base of exon i at that padded offset, of that codon and place in it, marked or not, with `alt_base` put in. Refusal 21 where the
 // codon is not all in the window.
 pub(crate) fn annotate_cds_snv(
+    letters: &[u8],
     place: VariantLocation,
     exons: u16,
     scalars: IndexScalars,
@@ -51,6 +47,7 @@ pub(crate) fn annotate_cds_snv(
     position: u8,
     mark: bool,
 ) -> Called
+    requires { ⌜ 768 ≤ length (now letters) ⌝ }
     requires { ⌜ Segments strand (now starts) (now ends) (now sums) (scalars .«cds_start_pad») ⌝ }
     requires { ⌜ (scalars .«segment_count» ≡ length (now starts))
         × (scalars .«total_cds_length» ≡ getD (now sums) (length (now starts)) 0)
@@ -62,32 +59,39 @@ pub(crate) fn annotate_cds_snv(
         × (scalars .«utr5_exonic_len» + (offset .0 - scalars .«cds_start_pad») ≤ top) ⌝ }
     ensures { λ r.
         let base = codingBase strand (windowFrom first (now bytes.entry)) in
-        ⌜ ((t : Oriented) (p : ℕ)
+        ⌜ ((table : List ℕ) (t : Oriented) (p : ℕ)
+        → AlteredLetters table (now letters.entry)
         → length (t .exons) ≡ exons
         → scalars ≡ indexScalars t
         → t .startComplete ≡ «start_complete»
         → t .segments ≡ lentExons strand (now starts.entry) (now ends.entry)
         → now codons.entry ≡ filled 64 (selenocysteineCodons t)
         → cdnaPosition t p ≡ scalars .«utr5_exonic_len» + (offset .0 - scalars .«cds_start_pad») + 1
-        → r ≡ codingCalled standardTable t p (codingByte strand «alt_base»)
+        → r ≡ codingCalled table t p (codingByte strand «alt_base»)
         place i offset number position mark (fetchCodon t base (offset .0))) ⌝ }
 {
-    let codon = fetch_ref_codon(scalars, strand, starts, ends, sums, first, bytes, offset.0);
-    let FetchedCodon::Bases(c) = codon else {
-        return Called::Refused(21);
-    };
-    let columns = read_codon(
-        is_start_codon(scalars.cds_start_pad, start_complete, number),
-        is_padded_codon(scalars.cds_start_pad, number),
-        is_incomplete_terminal_codon(scalars.total_cds_length, offset.0),
-        holds_selenocysteine(codons, scalars.selenocysteine_count, number),
+    let read = read_cds_codon(
+        letters,
+        scalars,
+        start_complete,
+        strand,
+        starts,
+        ends,
+        sums,
+        codons,
+        first,
+        bytes,
+        alt_base,
         offset,
         number,
-        c,
         position,
-        coding_byte(strand, alt_base),
     );
+    let CdsCodon::Read(columns) = read else {
+        return Called::Refused(21);
+    };
     let cdna = cdna_position(scalars.utr5_exonic_len, scalars.cds_start_pad, offset);
     let terms = with_mark(columns.terms, mark);
-    Called::Answered(exon_result(place, exons, i, cdna, columns, terms))
+    Called::Answered(coding_result(
+        place, exons, i, offset, number, position, cdna, columns, terms,
+    ))
 }

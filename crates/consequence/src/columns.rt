@@ -1,64 +1,44 @@
-// What the codon of a coding base gives: position, number, codons, letters and terms.
-use super::Counted;
+// What the codon of a coding base gives: codons, letters and terms.
 use super::letters::shown_letters;
 use super::letters::shows_codon;
 use codon::AminoAcids;
 use codon::Codon;
-use codon::Codons;
 use codon::build_alt_codon;
 use codon::translate_codons;
-use locate::CdsOffset;
 use terms::Consequence;
 use terms::TermSet;
 use terms::coding_term;
 ghost use mathlib.Core.Path.{_≡_};
-ghost use Prim.Native.Nat.{_+_, _≤_};
-ghost use Rattle.transcript.specs.Limits.{top};
+ghost use mathlib.Core.List.{List};
+ghost use Prim.Native.Nat.{ℕ, _≤_};
+ghost use lib.ListN.{length};
 ghost use Rattle.transcript.specs.Orient.{Oriented};
-ghost use Rattle.codon.specs.Table.{standardTable, buildAltCodon};
+ghost use Rattle.codon.specs.Table.{buildAltCodon};
+ghost use Rattle.codon.specs.code.Letters.{AlteredLetters};
 ghost use Rattle.consequence.specs.Reading.{isIncompleteTerminalCodon, holdsSelenocysteine};
 ghost use Rattle.consequence.specs.Coding.{isStartCodon, isPaddedCodon};
 ghost use Rattle.consequence.specs.code.AtPlace.{columnsOf};
-ghost use Rattle.consequence.specs.Answer.{noCodon, incompleteCodon, wholeCodon, readCodon};
+ghost use Rattle.consequence.specs.Answer.{incompleteCodon, wholeCodon, readCodon};
 
-// What an exon base gives to an answer, from its codon where it is coding.
+// Codon number and codons are shown or not; an answer has them as enums, which cost moves where they are handed on.
 pub struct CodonColumns {
-    pub position: Counted,
-    pub number: Counted,
-    pub codons: Codons,
+    pub shown: bool,
+    pub reference: Codon,
+    pub altered: Codon,
     pub letters: AminoAcids,
     pub terms: TermSet,
 }
 
-// A base that is not coding has no codon.
-pub(crate) fn no_codon() -> CodonColumns
-    ensures { λ r. ⌜ columnsOf r ≡ noCodon ⌝ }
-{
-    CodonColumns {
-        position: Counted::Absent,
-        number: Counted::Absent,
-        codons: Codons::Absent,
-        letters: AminoAcids::Absent,
-        terms: TermSet::none(),
-    }
-}
-
 // An unfinished last codon: its own bases as codons, letter X.
-fn incomplete_codon(offset: CdsOffset, number: u32, c: Codon, altered: Codon, k: u8) -> CodonColumns
-    requires { ⌜ offset .0 ≤ 2 + top ⌝ }
-    ensures { λ r. ⌜ columnsOf r ≡ incompleteCodon (offset .0) number c altered k ⌝ }
+fn incomplete_codon(c: Codon, altered: Codon) -> CodonColumns
+    ensures { λ r. ⌜ ((offset number k : ℕ) → columnsOf offset number k r ≡ incompleteCodon offset number c altered k) ⌝ }
 {
-    let n = offset.0;
     let first = TermSet::of(Consequence::IncompleteTerminalCodonVariant);
     let terms = first.with(Consequence::CodingSequenceVariant);
     CodonColumns {
-        position: Counted::At(n + 1),
-        number: Counted::At(number),
-        codons: Codons::Change {
-            reference: c,
-            altered,
-            place: k,
-        },
+        shown: true,
+        reference: c,
+        altered,
         letters: AminoAcids::One(b'X'),
         terms,
     }
@@ -68,79 +48,49 @@ fn incomplete_codon(offset: CdsOffset, number: u32, c: Codon, altered: Codon, k:
 fn whole_codon(
     start: bool,
     padded: bool,
-    offset: CdsOffset,
-    number: u32,
     c: Codon,
     altered: Codon,
-    k: u8,
     reference_letter: u8,
     altered_letter: u8,
 ) -> CodonColumns
-    requires { ⌜ offset .0 ≤ 2 + top ⌝ }
-    ensures { λ r. ⌜ ((t : Oriented)
+    ensures { λ r. ⌜ ((t : Oriented) (offset number k : ℕ)
         → start ≡ isStartCodon t number
         → padded ≡ isPaddedCodon t number
-        → columnsOf r ≡ wholeCodon t (offset .0) number c altered k «reference_letter» «altered_letter») ⌝ }
+        → columnsOf offset number k r ≡ wholeCodon t offset number c altered k «reference_letter» «altered_letter») ⌝ }
 {
-    let n = offset.0;
-    let letters = shown_letters(padded, reference_letter, altered_letter);
-    let terms = TermSet::of(coding_term(start, reference_letter, altered_letter));
-    if shows_codon(padded, reference_letter) {
-        return CodonColumns {
-            position: Counted::At(n + 1),
-            number: Counted::At(number),
-            codons: Codons::Change {
-                reference: c,
-                altered,
-                place: k,
-            },
-            letters,
-            terms,
-        };
-    }
     CodonColumns {
-        position: Counted::At(n + 1),
-        number: Counted::Absent,
-        codons: Codons::Absent,
-        letters,
-        terms,
+        shown: shows_codon(padded, reference_letter),
+        reference: c,
+        altered,
+        letters: shown_letters(padded, reference_letter, altered_letter),
+        terms: TermSet::of(coding_term(start, reference_letter, altered_letter)),
     }
 }
 
-// The codon of that number, whose base at place k becomes the base put in.
+// The codon c, whose base at place k becomes the base put in, by the letters of a genetic code.
 pub(crate) fn read_codon(
+    letters: &[u8],
     start: bool,
     padded: bool,
     incomplete: bool,
     selenocysteine: bool,
-    offset: CdsOffset,
-    number: u32,
     c: Codon,
     k: u8,
     b: u8,
 ) -> CodonColumns
-    requires { ⌜ offset .0 ≤ 2 + top ⌝ }
-    ensures { λ r. ⌜ ((t : Oriented)
+    requires { ⌜ 768 ≤ length (now letters) ⌝ }
+    ensures { λ r. ⌜ ((table : List ℕ) (t : Oriented) (offset number : ℕ)
+        → AlteredLetters table (now letters.entry)
         → start ≡ isStartCodon t number
         → padded ≡ isPaddedCodon t number
-        → incomplete ≡ isIncompleteTerminalCodon t (offset .0)
+        → incomplete ≡ isIncompleteTerminalCodon t offset
         → selenocysteine ≡ holdsSelenocysteine t number
-        → columnsOf r ≡ readCodon standardTable t (offset .0) number c (buildAltCodon c k b) k) ⌝ }
+        → columnsOf offset number k r ≡ readCodon table t offset number c (buildAltCodon c k b) k) ⌝ }
 {
     let altered = build_alt_codon(c, k, b);
     if incomplete {
-        return incomplete_codon(offset, number, c, altered, k);
+        return incomplete_codon(c, altered);
     }
-    let letters = translate_codons(selenocysteine, c, k, b);
-    whole_codon(
-        start,
-        padded,
-        offset,
-        number,
-        c,
-        altered,
-        k,
-        letters.reference,
-        letters.altered,
-    )
+    let both = translate_codons(letters, selenocysteine, c, k, b);
+    whole_codon(start, padded, c, altered, both.reference, both.altered)
 }

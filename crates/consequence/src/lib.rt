@@ -2,8 +2,11 @@
 mod admitted;
 mod answer;
 mod cdna;
+mod cds_codon;
+mod code;
 mod coding;
 mod columns;
+mod exonic;
 mod letters;
 mod place;
 mod reading;
@@ -18,6 +21,9 @@ mod window;
 
 pub use admitted::annotate_admitted;
 pub use cdna::cdna_count;
+pub use cds_codon::CdsCodon;
+pub use cds_codon::read_cds_codon;
+pub use code::call_letters;
 use codon::AminoAcids;
 use codon::Codon;
 use codon::Codons;

@@ -1,11 +1,10 @@
 // The answer at a place, before the splice spill.
 use super::Called;
-use super::answer::exon_result;
 use super::answer::flank_result;
 use super::answer::intron_result;
 use super::cdna::compute_cdna_position_exonic;
 use super::coding::annotate_cds_snv;
-use super::columns::no_codon;
+use super::exonic::exon_result;
 use super::region::Region;
 use super::region::region_of;
 use super::region::with_mark;
@@ -15,18 +14,19 @@ use locate::VariantLocation;
 use terms::TermSet;
 use transcript::TranscriptModel;
 ghost use mathlib.Core.Path.{_≡_};
-ghost use Rattle.codon.specs.Table.{standardTable};
+ghost use Rattle.codon.specs.code.Letters.{AlteredLetters};
 ghost use Rattle.transcript.specs.Transcript.{given, wasGiven};
 ghost use Rattle.transcript.specs.Orient.{oriented};
 ghost use Rattle.locate.specs.Place.{locate};
 ghost use Rattle.consequence.specs.Window.{windowFrom, codingByte};
-ghost use Rattle.consequence.specs.Call.{callCodon};
+ghost use Rattle.consequence.specs.Call.{callTable, callCodon};
 ghost use Rattle.consequence.specs.code.AtPlace.{placeCalled};
 ghost use Rattle.consequence.specs.code.Prepared.{Prepared};
 
 // `place` is that of p, an oriented base, and `alt_base` is put in there. Refusals 19 and 21.
 pub(crate) fn annotate_place(
     ranges: Ranges,
+    letters: &[u8],
     first: u64,
     bytes: &[u8],
     alt_base: u8,
@@ -47,11 +47,12 @@ pub(crate) fn annotate_place(
 ) -> Called
     requires { let t = given model «exon_starts» «exon_ends» «seg_phases» «seg_exons» «seg_starts» «seg_ends» selenocysteine in
         ⌜ Prepared t scalars (now «cumulative_exons») (now «cumulative_cds») (now «selenocysteine_codons») ⌝
-        ∗ ⌜ place ≡ locate ranges (oriented t) p ⌝ }
+        ∗ ⌜ place ≡ locate ranges (oriented t) p ⌝
+        ∗ ⌜ AlteredLetters (callTable t) (now letters) ⌝ }
     ensures { λ r.
         let t = wasGiven model «exon_starts» «exon_ends» «seg_phases» «seg_exons» «seg_starts» «seg_ends» selenocysteine in
         let w = windowFrom first (now bytes.entry) in
-        ⌜ r ≡ placeCalled standardTable (oriented t) p (codingByte (model .strand) «alt_base») (callCodon t w) place ⌝ }
+        ⌜ r ≡ placeCalled (callTable t) (oriented t) p (codingByte (model .strand) «alt_base») (callCodon t w) place ⌝ }
 {
     let exons = model.exon_count;
     let strand = model.strand;
@@ -73,7 +74,7 @@ pub(crate) fn annotate_place(
                 p,
             );
             let terms = with_mark(TermSet::of(term), mark);
-            Called::Answered(exon_result(place, exons, index, cdna, no_codon(), terms))
+            Called::Answered(exon_result(place, exons, index, cdna, terms))
         }
         Region::Coding {
             index,
@@ -82,6 +83,7 @@ pub(crate) fn annotate_place(
             position,
             mark,
         } => annotate_cds_snv(
+            letters,
             place,
             exons,
             scalars,

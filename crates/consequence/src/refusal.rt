@@ -45,7 +45,7 @@ fn window_refusal(first: u64, bytes: &[u8], call: Call) -> u8
     0
 }
 
-// 15, 14, 20, 16, 17 and 18, and 0 for none. The call asks about [p, p + 1).
+// 15, 14, 16, 17 and 18, and 0 for none. The call asks about [p, p + 1).
 pub(crate) fn opening_refusal(
     chromosome: u16,
     window_chromosome: u16,
@@ -63,9 +63,6 @@ pub(crate) fn opening_refusal(
     }
     if is_elsewhere(chromosome, call.chromosome, window_chromosome) {
         return 14;
-    }
-    if call.chromosome == 25 {
-        return 20;
     }
     if bad_alt(call) {
         return 16;

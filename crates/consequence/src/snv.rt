@@ -1,7 +1,9 @@
 // The single-base call on a transcript as it is handed in.
 use super::Call;
 use super::Called;
+use super::code::call_letters;
 use super::summed::annotate_summed;
+use codon::altered_letters;
 use footprint::has_frameshift_intron;
 use footprint::source_ranges;
 use locate::sum_up;
@@ -15,7 +17,7 @@ ghost use Rattle.consequence.specs.Window.{windowWasGiven};
 ghost use Rattle.footprint.specs.Ranges.{sourceRanges};
 ghost use Rattle.consequence.specs.Call.{annotateSnv};
 
-// The whole answer to a call, or the number of its refusal: 1 to 13, then 15, 14, 20, 16, 17, 18, 19 and 21.
+// The whole answer to a call, or the number of its refusal: 1 to 13, then 15, 14, 16, 17, 18, 19 and 21.
 pub fn annotate_snv(
     window_chromosome: u16,
     window_first: u64,
@@ -65,8 +67,10 @@ pub fn annotate_snv(
         selenocysteine,
     );
     let ranges = source_ranges();
+    let both = altered_letters();
     annotate_summed(
         ranges,
+        call_letters(&both, model.chromosome),
         window_chromosome,
         window_first,
         window,

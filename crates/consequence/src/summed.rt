@@ -9,13 +9,15 @@ use transcript::TranscriptModel;
 ghost use mathlib.Core.Path.{_≡_};
 ghost use Rattle.transcript.specs.Transcript.{given, wasGiven};
 ghost use Rattle.consequence.specs.Window.{windowWasGiven};
-ghost use Rattle.consequence.specs.Call.{annotateSnv};
+ghost use Rattle.consequence.specs.Call.{callTable, annotateSnv};
+ghost use Rattle.codon.specs.code.Letters.{AlteredLetters};
 ghost use Rattle.consequence.specs.code.Prepared.{Summed};
 
 // The answer from the cumulative lengths of exons and CDS and whether there is a short intron, or the number of the refusal: 15,
-// 14, 20, 16, 17, 18, 19 and 21.
+// 14, 16, 17, 18, 19 and 21.
 pub fn annotate_summed(
     ranges: Ranges,
+    letters: &[u8],
     window_chromosome: u16,
     window_first: u64,
     window: &[u8],
@@ -33,7 +35,8 @@ pub fn annotate_summed(
     short: bool,
 ) -> Called
     requires { let t = given model «exon_starts» «exon_ends» «seg_phases» «seg_exons» «seg_starts» «seg_ends» selenocysteine in
-        ⌜ Summed t (now «cumulative_exons») (now «cumulative_cds») short ⌝ }
+        ⌜ Summed t (now «cumulative_exons») (now «cumulative_cds») short ⌝
+        ∗ ⌜ AlteredLetters (callTable t) (now letters) ⌝ }
     ensures { λ r.
         let t = wasGiven model «exon_starts» «exon_ends» «seg_phases» «seg_exons» «seg_starts» «seg_ends» selenocysteine in
         let w = windowWasGiven «window_chromosome» «window_first» window in
@@ -63,6 +66,7 @@ pub fn annotate_summed(
     let selenocysteine_codons = codons.numbers;
     annotate_admitted(
         ranges,
+        letters,
         window_chromosome,
         window_first,
         window,

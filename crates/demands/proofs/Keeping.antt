@@ -6,7 +6,7 @@ use lib.Dec.{leb, ltb}
 use borrow.Author.Tests.{leb-true, ltb-true}
 use Rattle.common.proofs.TestParts.{and-true}
 use Rattle.transcript.specs.declared.Strand.{Strand}
-use Rattle.codon.specs.Table.{standardTable}
+use Rattle.codon.specs.Table.{codeTable}
 use Rattle.footprint.specs.declared.SpliceSpill.{SpliceSpill}
 use Rattle.locate.specs.declared.VariantLocation.{VariantLocation}
 use Rattle.footprint.specs.declared.Ranges.{Ranges}
@@ -24,7 +24,7 @@ use Rattle.consequence.specs.declared.Call.{Call}
 use Rattle.consequence.specs.Window.{Window, codingByte, codingBase}
 use Rattle.consequence.specs.Reading.{fetchCodon}
 use Rattle.consequence.specs.Answer.{placeResult}
-use Rattle.consequence.specs.Call.{addSpliceSpill, callPlace, callCodon, openingRefusal, callRefusal, callResult, annotateSnv}
+use Rattle.consequence.specs.Call.{codeOf, callTable, addSpliceSpill, callPlace, callCodon, openingRefusal, callRefusal, callResult, annotateSnv}
 use Rattle.demands.specs.Longer.{Longer, insideTranscript}
 use Rattle.demands.specs.Carry.{carryPlace, carryResult, carryLocated, carryCalled}
 use Rattle.demands.specs.claims.Demands.{added, nearOuterEnd, callAt, LongerKeeps}
@@ -72,13 +72,15 @@ module _ (r : Ranges) (S L : Transcript) (x : Longer S L) (hS : Admitted S) (hL 
       let e = edges r S L x hS hL (q .position) inside in
       let alt = codingByte (S .model .strand) (q .«alt_base») in
       let s = exonicSpliceSpill (oriented S) (interval p (p + 1)) in
-      ap (λ (σ : Strand). addSpliceSpill (exonicSpliceSpill (oriented L) (interval (orientBase σ (q .position)) (orientBase σ (q .position) + 1)))
-      (placeResult standardTable (oriented L) (orientBase σ (q .position)) (codingByte σ (q .«alt_base»)) (callCodon L w) (callPlace r L q))) (x .strand)
-      ∙ ap (λ (s : SpliceSpill). addSpliceSpill s (placeResult standardTable (oriented L) p alt (callCodon L w) (callPlace r L q))) (around-spill (oriented S) (oriented L) (interval p (p + 1)) (a .exons))
-      ∙ ap (λ (v : VariantLocation). addSpliceSpill s (placeResult standardTable (oriented L) p alt (callCodon L w) v)) (same-place r S L x hS hL (q .position) inside)
+      ap (λ (n : ℕ). addSpliceSpill (exonicSpliceSpill (oriented L) (interval (orientBase (L .model .strand) (q .position)) (orientBase (L .model .strand) (q .position) + 1)))
+      (placeResult (codeTable (codeOf n)) (oriented L) (orientBase (L .model .strand) (q .position)) (codingByte (L .model .strand) (q .«alt_base»)) (callCodon L w) (callPlace r L q))) (x .chromosome)
+      ∙ ap (λ (σ : Strand). addSpliceSpill (exonicSpliceSpill (oriented L) (interval (orientBase σ (q .position)) (orientBase σ (q .position) + 1)))
+      (placeResult (callTable S) (oriented L) (orientBase σ (q .position)) (codingByte σ (q .«alt_base»)) (callCodon L w) (callPlace r L q))) (x .strand)
+      ∙ ap (λ (s : SpliceSpill). addSpliceSpill s (placeResult (callTable S) (oriented L) p alt (callCodon L w) (callPlace r L q))) (around-spill (oriented S) (oriented L) (interval p (p + 1)) (a .exons))
+      ∙ ap (λ (v : VariantLocation). addSpliceSpill s (placeResult (callTable S) (oriented L) p alt (callCodon L w) v)) (same-place r S L x hS hL (q .position) inside)
       ∙ result-carry (oriented S) (oriented L) a (added S L x (q .position)) s p (a .exons .some)
       (around-length (oriented S .exons) (oriented L .exons) (a .exons)) (around-count (oriented S .exons) (oriented L .exons) (a .exons) p (e .0) (e .1))
-      standardTable alt (callCodon L w) (callCodon S w) same-call-codon (callPlace r S q)
+      (callTable S) alt (callCodon L w) (callCodon S w) same-call-codon (callPlace r S q)
 
   called : annotateSnv r L w q ≡ carryCalled (added S L x (q .position)) (annotateSnv r S w q)
   unfolding annotateSnv

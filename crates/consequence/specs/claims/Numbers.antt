@@ -20,7 +20,7 @@ use Rattle.consequence.specs.Call.{lacksCodon, windowRefusal, closingRef
 use Rattle.consequence.specs.Numbers.{calledNumber, isAnswered, fetchedBaseNumber, fetchedBaseValues, positionNumber, codonBaseNumber, fetchedCodonNumber, fetchedCodonValues}
 
 abbrev pub callNumbers : List ℕ
-callNumbers = 0 ∷ 1 ∷ 2 ∷ 3 ∷ 4 ∷ 5 ∷ 6 ∷ 7 ∷ 8 ∷ 9 ∷ 10 ∷ 11 ∷ 12 ∷ 13 ∷ 15 ∷ 14 ∷ 20 ∷ 16 ∷ 17 ∷ 18 ∷ 19 ∷ 21 ∷ []
+callNumbers = 0 ∷ 1 ∷ 2 ∷ 3 ∷ 4 ∷ 5 ∷ 6 ∷ 7 ∷ 8 ∷ 9 ∷ 10 ∷ 11 ∷ 12 ∷ 13 ∷ 15 ∷ 14 ∷ 16 ∷ 17 ∷ 18 ∷ 19 ∷ 21 ∷ []
 
 abbrev pub CallGiven : Type 0
 CallGiven =

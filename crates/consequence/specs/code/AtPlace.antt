@@ -1,12 +1,15 @@
 -- The answer at a place before the splice spill, as the code goes: its refusal, or the columns of its region.
-use Prim.Native.Nat.{ℕ}
+use Prim.Native.Nat.{ℕ, _+_}
 use mathlib.Core.Bool.{cond, Bool}
 use mathlib.Core.List.{List}
 use Rattle.locate.specs.declared.VariantLocation.{VariantLocation}
 use Rattle.locate.specs.declared.CdsOffset.{CdsOffset}
 use Rattle.transcript.specs.Orient.{Oriented}
 use Rattle.consequence.specs.declared.FetchedCodon.{FetchedCodon}
+use Rattle.codon.specs.declared.Codons.{Codons}
+use Rattle.consequence.specs.declared.Counted.{Counted}
 use Rattle.consequence.specs.declared.columns.CodonColumns.{CodonColumns}
+use Rattle.consequence.specs.declared.cds_codon.CdsCodon.{CdsCodon}
 use Rattle.consequence.specs.declared.region.Region.{Region}
 use lib.Dec.{eqb}
 use Rattle.locate.specs.PlaceKind.{isDistal}
@@ -14,15 +17,26 @@ use Rattle.consequence.specs.declared.Called.{Called}
 use Rattle.consequence.specs.Answer.{noCodon, codonColumns, codonResult, placeResult, Columns}
 use Rattle.consequence.specs.Call.{lacksCodon, closingRefusal}
 
--- the columns of a codon as the code hands them on
-abbrev pub columnsOf : CodonColumns → Columns
-columnsOf c = record { position = c .position; number = c .number; codons = c .codons; letters = c .letters; terms = c .terms .0 }
+-- the columns of a codon as the code hands them on: of that padded offset and number, with the changed base at place k
+abbrev pub columnsOf : ℕ → ℕ → ℕ → CodonColumns → Columns
+columnsOf offset number k c = record {
+  position = Counted.At (offset + 1);
+  number = cond (c .shown) (Counted.At number) Counted.Absent;
+  codons = cond (c .shown) (Codons.Change (c .reference) (c .altered) k) Codons.Absent;
+  letters = c .letters;
+  terms = c .terms .0;
+}
 
 -- a coding base in exon i, with its codon
 abbrev pub codingCalled : List ℕ → Oriented → ℕ → ℕ → VariantLocation → ℕ → CdsOffset → ℕ → ℕ → Bool → FetchedCodon → Called
 codingCalled code t p alt place i o n k m (FetchedCodon.Bases c) =
     Called.Answered (codonResult t p place (Region.Coding i o n k m) (codonColumns code t (o .0) n k alt (FetchedCodon.Bases c)))
 codingCalled code t p alt place i o n k m FetchedCodon.OutsideWindow = Called.Refused 21
+
+-- the same from the columns of the codon
+abbrev pub columnsCalled : Oriented → ℕ → VariantLocation → ℕ → CdsOffset → ℕ → ℕ → Bool → CdsCodon → Called
+columnsCalled t p place i o n k m (CdsCodon.Read c) = Called.Answered (codonResult t p place (Region.Coding i o n k m) (columnsOf (o .0) n k c))
+columnsCalled t p place i o n k m CdsCodon.OutsideWindow = Called.Refused 21
 
 -- from the region of the place
 abbrev pub regionCalled : List ℕ → Oriented → ℕ → ℕ → (ℕ → FetchedCodon) → VariantLocation → Region → Called

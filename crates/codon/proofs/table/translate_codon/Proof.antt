@@ -2,7 +2,7 @@
 -- Assumes nothing.
 use mathlib.Core.Path.{_∙_, sym}
 use borrow.Author.Needs.{needs}
-use Rattle.codon.specs.Table.{standardTable, translateCodon}
+use Rattle.codon.specs.Table.{codeTable, translateCodon}
 use Rattle.codon.proofs.Index.{letter-is, codon-below}
 use Rattle.codon.proofs.table.translate_codon.Statement.{statement}
 use Rattle.codon.proofs.table.translate_codon.Tie as tie
@@ -30,7 +30,7 @@ returns-2 : tie.Need-returns-2
 returns-2 c =
     let m = c .before .before .before .before in
     let n = c .before .before .n .given in
-    c .letter-at .ensures ∙ letter-is (m .before .args .c) standardTable (n .0 .0) (sym (m .codon-to-index .ensures) ∙ n .1)
+    c .letter-at .ensures ∙ letter-is (m .before .args .c) (codeTable (m .before .args .code)) (n .0 .0) (sym (m .codon-to-index .ensures) ∙ n .1)
 
 pub translate-codon-spec : {M : Type 1} → statement M
 translate-codon-spec =

@@ -27,8 +27,8 @@ use Rattle.consequence.proofs.admitted.annotate_admitted.Tie as tie
 -- a law about the transcript and its index, at them
 abbrev on : (b : tie.Start) → {P : (m : TranscriptModel) (ss es ps is gs ge bs : List ℕ) (x : IndexScalars) (xs ys cs : List ℕ) → Prepared (lent m ss es ps is gs ge bs) x xs ys cs → Type 0}
     → ((m : TranscriptModel) (ss es ps is gs ge bs : List ℕ) (x : IndexScalars) (xs ys cs : List ℕ) (h : Prepared (lent m ss es ps is gs ge bs) x xs ys cs) → P m ss es ps is gs ge bs x xs ys cs h)
-    → P (b .args .model) (now (b .args .exon-starts)) (now (b .args .exon-ends)) (now (b .args .seg-phases)) (now (b .args .seg-exons)) (now (b .args .seg-starts)) (now (b .args .seg-ends)) (now (b .args .selenocysteine)) (b .args .scalars) (now (b .args .cumulative-exons)) (now (b .args .cumulative-cds)) (now (b .args .selenocysteine-codons)) (b .pre)
-on b f = f (b .args .model) (now (b .args .exon-starts)) (now (b .args .exon-ends)) (now (b .args .seg-phases)) (now (b .args .seg-exons)) (now (b .args .seg-starts)) (now (b .args .seg-ends)) (now (b .args .selenocysteine)) (b .args .scalars) (now (b .args .cumulative-exons)) (now (b .args .cumulative-cds)) (now (b .args .selenocysteine-codons)) (b .pre)
+    → P (b .args .model) (now (b .args .exon-starts)) (now (b .args .exon-ends)) (now (b .args .seg-phases)) (now (b .args .seg-exons)) (now (b .args .seg-starts)) (now (b .args .seg-ends)) (now (b .args .selenocysteine)) (b .args .scalars) (now (b .args .cumulative-exons)) (now (b .args .cumulative-cds)) (now (b .args .selenocysteine-codons)) (b .pre .0)
+on b f = f (b .args .model) (now (b .args .exon-starts)) (now (b .args .exon-ends)) (now (b .args .seg-phases)) (now (b .args .seg-exons)) (now (b .args .seg-starts)) (now (b .args .seg-ends)) (now (b .args .selenocysteine)) (b .args .scalars) (now (b .args .cumulative-exons)) (now (b .args .cumulative-cds)) (now (b .args .selenocysteine-codons)) (b .pre .0)
 
 abbrev transcript : tie.Start → Transcript
 transcript b = lent (b .args .model) (now (b .args .exon-starts)) (now (b .args .exon-ends)) (now (b .args .seg-phases)) (now (b .args .seg-exons)) (now (b .args .seg-starts)) (now (b .args .seg-ends)) (now (b .args .selenocysteine))
@@ -38,14 +38,14 @@ window b = record { chromosome = b .args .window-chromosome; first = b .args .wi
 
 -- where the call was asked
 abbrev start : tie.Else1 → tie.Start
-start c = c .before .before .before .before .before .before .before .before .before .before .before .before
+start c = c .before .before .before .before .before .before .before .before .before .before .before .before .before
 
 -- past the first refusals
 opened : (c : tie.Else1) → openingRefusal (transcript (start c)) (window (start c)) (start c .args .call) ≡ 0
-opened c = sym (c .before .opening-refusal .ensures (transcript (start c)) (start c .pre .admitted) refl) ∙ c .if1 .left
+opened c = sym (c .before .opening-refusal .ensures (transcript (start c)) (start c .pre .0 .admitted) refl) ∙ c .if1 .left
 
 within : (c : tie.Else1) → start c .args .call .position ≤ queryLimit
-within c = opening-within (transcript (start c)) (window (start c)) (start c .args .call) (start c .pre .admitted) (opened c)
+within c = opening-within (transcript (start c)) (window (start c)) (start c .args .call) (start c .pre .0 .admitted) (opened c)
 
 low : (c : tie.After-base-of) → c .base-of .result ≤ top
 low c = let b = start (c .before) in rw (c .base-of .ensures) (base-low (b .args .model .strand) (b .args .call .position) (within (c .before)))
@@ -66,15 +66,15 @@ opening-refusal-requires c κs = search needs
 
 returns : tie.Need-returns
 returns c =
-    let b = c .before .before .before .before .before .before .before .before .before .before .before .before in
+    let b = c .before .before .before .before .before .before .before .before .before .before .before .before .before in
     let r = c .before .opening-refusal in
-    refused (b .args .ranges) (transcript b) (window b) (b .args .call) (r .result) (omega arith) (sym (r .ensures (transcript b) (b .pre .admitted) refl))
+    refused (b .args .ranges) (transcript b) (window b) (b .args .call) (r .result) (omega arith) (sym (r .ensures (transcript b) (b .pre .0 .admitted) refl))
 
 base-of-requires : tie.Need-base-of-requires
 base-of-requires c κs = search needs
 
 place-of-base-requires : tie.Need-place-of-base-requires
-place-of-base-requires c κs = let h = start (c .before) .pre in (h .admitted, ((h .scalars-are, h .exons-are), low c))
+place-of-base-requires c κs = let h = start (c .before) .pre .0 in (h .admitted, ((h .scalars-are, h .exons-are), low c))
 
 annotate-place-requires : tie.Need-annotate-place-requires
 annotate-place-requires c κs = search needs
@@ -99,7 +99,7 @@ returns-3 c =
     let b = start (c .before .before .before .before .before .before .before .before) in
     let s = c .before .spill-at in
     ap Called.Answered (c .add-splice-spill .ensures) ∙ ap (spilled (s .result)) (sym (c .before .before .before .placed .given .1))
-    ∙ whole (c .before .before .before .before .before) (s .result) (s .ensures (oriented (transcript b)) (on b exons-at) (ap (λ (x : IndexScalars). x .«has_frameshift_intron») (b .pre .scalars-are)))
+    ∙ whole (c .before .before .before .before .before) (s .result) (s .ensures (oriented (transcript b)) (on b exons-at) (ap (λ (x : IndexScalars). x .«has_frameshift_intron») (b .pre .0 .scalars-are)))
 
 pub annotate-admitted-spec : {M : Type 1} → statement M
 annotate-admitted-spec =

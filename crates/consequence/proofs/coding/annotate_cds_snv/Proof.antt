@@ -1,107 +1,67 @@
--- `consequence::coding::annotate_cds_snv` meets its contract.
+-- The answer from what the codon gives.
 -- Assumes nothing.
 use Prim.Native.Nat.{ℕ}
 use mathlib.Core.Path.{_≡_, sym, _∙_, ap}
 use Rattle.transcript.specs.Orient.{Oriented}
-use Rattle.locate.specs.declared.IndexScalars.{IndexScalars}
-use Rattle.locate.specs.Place.{totalCdsLength}
-use Rattle.locate.specs.Index.{indexScalars}
-use Rattle.consequence.specs.declared.FetchedCodon.{FetchedCodon}
 use Rattle.consequence.specs.declared.Called.{Called}
-use Rattle.consequence.specs.declared.region.Region.{Region}
-use Rattle.codon.specs.Table.{standardTable, buildAltCodon}
-use Rattle.consequence.specs.Window.{codingByte}
-use Rattle.consequence.specs.Reading.{incompleteAt}
-use Rattle.consequence.specs.code.AtPlace.{codingCalled, columnsOf}
-use Rattle.consequence.specs.Answer.{exonResult, codonResult, readCodon, codonColumns}
+use Rattle.consequence.specs.declared.cds_codon.CdsCodon.{CdsCodon}
+use Rattle.consequence.specs.code.AtPlace.{columnsOf, columnsCalled}
+use Rattle.consequence.specs.Answer.{exonResult}
 use borrow.Author.Needs.{needs}
 use Rattle.consequence.proofs.coding.annotate_cds_snv.Statement.{statement}
 use Rattle.consequence.proofs.coding.annotate_cds_snv.Tie as tie
 
--- the answer from the codon
-abbrev called : tie.Start → Oriented → ℕ → FetchedCodon → Called
-called b t p c = codingCalled standardTable t p (codingByte (b .args .strand) (b .args .alt-base)) (b .args .place) (b .args .i) (b .args .offset) (b .args .number) (b .args .position) (b .args .mark) c
+-- the answer from what the codon gives
+abbrev called : tie.Start → Oriented → ℕ → CdsCodon → Called
+called b t p r = columnsCalled t p (b .args .place) (b .args .i) (b .args .offset) (b .args .number) (b .args .position) (b .args .mark) r
 
-pad-of : (b : tie.Start) (t : Oriented) → b .args .scalars ≡ indexScalars t → t .pad ≡ b .args .scalars .«cds_start_pad»
-pad-of b t h = sym (ap (λ (x : IndexScalars). x .«cds_start_pad») h)
+read-cds-codon-requires : tie.Need-read-cds-codon-requires
+read-cds-codon-requires c κs =
+    let b = c .before .before .before .before .before in
+    (b .pre .0, (b .pre .1 .0, (b .pre .1 .1 .0, b .pre .1 .1 .1 .0)))
 
-total-of : (b : tie.Start) (t : Oriented) → b .args .scalars ≡ indexScalars t → totalCdsLength t ≡ b .args .scalars .«total_cds_length»
-total-of b t h = sym (ap (λ (x : IndexScalars). x .«total_cds_length») h)
-
-fetch-ref-codon-requires : tie.Need-fetch-ref-codon-requires
-fetch-ref-codon-requires c κs = search needs
-
-enum-known-codon : tie.Need-enum-known-codon
-enum-known-codon c = search needs
+enum-known-read : tie.Need-enum-known-read
+enum-known-read c = search needs
 
 enum-told : tie.Need-enum-told
 enum-told c = search needs
 
 returns : tie.Need-returns
 returns c =
-    let b = c .before .before .before .before .before .before .before in
-    λ t p he hs hc hg hu hd. ap (called b t p) (sym (c .enum-told .given .1) ∙ c .before .before .fetch-ref-codon .ensures t (pad-of b t hs) hg (total-of b t hs))
-
-is-start-codon-requires : tie.Need-is-start-codon-requires
-is-start-codon-requires c κs = search needs
-
-is-padded-codon-requires : tie.Need-is-padded-codon-requires
-is-padded-codon-requires c κs = search needs
-
-is-incomplete-terminal-codon-requires : tie.Need-is-incomplete-terminal-codon-requires
-is-incomplete-terminal-codon-requires c κs = search needs
-
-holds-selenocysteine-requires : tie.Need-holds-selenocysteine-requires
-holds-selenocysteine-requires c κs = search needs
-
-coding-byte-requires : tie.Need-coding-byte-requires
-coding-byte-requires c κs = search needs
-
-read-codon-requires : tie.Need-read-codon-requires
-read-codon-requires c κs = c .before .before .before .before .before .before .before .before .before .before .before .before .before .pre .1 .1 .1 .1
+    let b = c .before .before .before .before .before .before .before .before in
+    λ table t p e he hs hc hg hu hd.
+    ap (called b t p) (sym (c .enum-told .given .1))
+    ∙ c .before .before .read-cds-codon .ensures table t e hs hc hg hu p (b .args .place) (b .args .i) (b .args .mark)
 
 cdna-position-requires : tie.Need-cdna-position-requires
-cdna-position-requires c κs = let h = c .before .before .before .before .before .before .before .before .before .before .before .before .before .before .pre .1 .1 .1 in (h .2, h .3)
+cdna-position-requires c κs = let h = c .before .before .before .before .before .before .before .before .before .pre .1 .1 .1 .1 in (h .2, h .3)
 
 with-mark-requires : tie.Need-with-mark-requires
 with-mark-requires c κs = search needs
 
-exon-result-requires : tie.Need-exon-result-requires
-exon-result-requires c κs = c .before .before .before .before .before .before .before .before .before .before .before .before .before .before .before .before .pre .1 .1 .1 .0
+coding-result-requires : tie.Need-coding-result-requires
+coding-result-requires c κs = let h = c .before .before .before .before .before .before .before .before .before .before .before .pre .1 .1 .1 .1 in (h .0, h .1)
 
 returns-2 : tie.Need-returns-2
-unfolding codonColumns
 returns-2 c =
-    let b = c .before .before .before .before .before .before .before .before .before .before .before .before .before .before .before .before .before in
-    let d = c .before .before .before .before .before .before .before .before .before .before .codon in
-    let bases = d .given .0 .0 in
-    λ t p he hs hc hg hu hd.
-    let start = c .before .before .before .before .before .before .before .before .is-start-codon .ensures t (pad-of b t hs) hc in
-    let padded = c .before .before .before .before .before .before .before .is-padded-codon .ensures t (pad-of b t hs) in
-    let unfinished = c .before .before .before .before .before .before .is-incomplete-terminal-codon .ensures ∙ ap (λ (n : ℕ). incompleteAt n (b .args .offset .0)) (sym (total-of b t hs)) in
-    let held = c .before .before .before .before .before .holds-selenocysteine .ensures t (ap (λ (x : IndexScalars). x .«selenocysteine_count») hs) hu in
-    let columns = c .before .before .before .read-codon .ensures t start padded unfinished held ∙ ap (λ (n : ℕ). readCodon standardTable t (b .args .offset .0) (b .args .number) bases (buildAltCodon bases (b .args .position) n) (b .args .position)) (c .before .before .before .before .coding-byte .ensures) in
+    let b = c .before .before .before .before .before .before .before .before .before .before .before .before in
+    let d = c .before .before .before .before .read in
+    λ table t p e he hs hc hg hu hd.
     ap Called.Answered
-    (c .exon-result .ensures t p he (hd ∙ sym (c .before .before .cdna-position .ensures))
-    ∙ ap (λ (n : ℕ). exonResult t p (b .args .place) (b .args .i) (columnsOf (c .before .before .before .read-codon .result)) n) (c .before .with-mark .ensures)
-    ∙ ap (codonResult t p (b .args .place) (Region.Coding (b .args .i) (b .args .offset) (b .args .number) (b .args .position) (b .args .mark))) columns)
-    ∙ ap (called b t p) (sym (d .given .1) ∙ c .before .before .before .before .before .before .before .before .before .before .before .before .fetch-ref-codon .ensures t (pad-of b t hs) hg (total-of b t hs))
+    (c .coding-result .ensures t p he (hd ∙ sym (c .before .before .cdna-position .ensures))
+    ∙ ap (λ (n : ℕ). exonResult t p (b .args .place) (b .args .i) (columnsOf (b .args .offset .0) (b .args .number) (b .args .position) (d .given .0 .0)) n) (c .before .with-mark .ensures))
+    ∙ ap (called b t p) (sym (d .given .1))
+    ∙ c .before .before .before .before .before .before .read-cds-codon .ensures table t e hs hc hg hu p (b .args .place) (b .args .i) (b .args .mark)
 
 pub annotate-cds-snv-spec : {M : Type 1} → statement M
 annotate-cds-snv-spec =
     tie.close
     (tie.spec
-    fetch-ref-codon-requires
-    enum-known-codon
+    read-cds-codon-requires
+    enum-known-read
     enum-told
     returns
-    is-start-codon-requires
-    is-padded-codon-requires
-    is-incomplete-terminal-codon-requires
-    holds-selenocysteine-requires
-    coding-byte-requires
-    read-codon-requires
     cdna-position-requires
     with-mark-requires
-    exon-result-requires
+    coding-result-requires
     returns-2)

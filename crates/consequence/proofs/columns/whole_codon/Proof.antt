@@ -1,13 +1,18 @@
--- `consequence::columns::whole_codon` meets its contract.
+-- Field by field.
 -- Assumes nothing.
-use mathlib.Core.Path.{sym, _∙_, ap}
-use mathlib.Core.Bool.{Bool}
+use Prim.Native.Nat.{_+_}
+use mathlib.Core.Path.{_∙_, ap}
+use mathlib.Core.Bool.{Bool, cond}
+use Rattle.codon.specs.declared.Codons.{Codons}
 use Rattle.terms.specs.Terms.{only}
 use Rattle.terms.specs.Coding.{codingTerm}
-use Rattle.consequence.proofs.CodonBases.{codon-shown, codon-hidden}
+use Rattle.consequence.specs.declared.Counted.{Counted}
 use borrow.Author.Needs.{needs}
 use Rattle.consequence.proofs.columns.whole_codon.Statement.{statement}
 use Rattle.consequence.proofs.columns.whole_codon.Tie as tie
+
+shows-codon-requires : tie.Need-shows-codon-requires
+shows-codon-requires c κs = search needs
 
 shown-letters-requires : tie.Need-shown-letters-requires
 shown-letters-requires c κs = search needs
@@ -18,40 +23,21 @@ coding-term-requires c κs = search needs
 of-requires : tie.Need-of-requires
 of-requires c κs = search needs
 
-shows-codon-requires : tie.Need-shows-codon-requires
-shows-codon-requires c κs = search needs
-
-add-t15 : tie.Need-add-t15
-add-t15 c = search needs
-
 returns : tie.Need-returns
-returns c = λ t hs hp.
-    let a = c .before .before .before .before .before .args in
-    let e = sym (c .before .shows-codon .ensures t (a .number) hp) ∙ c .if1 .taken in
-    let l = c .before .before .before .before .shown-letters .ensures t (a .number) hp in
-    let h = c .before .before .of .ensures ∙ ap only (c .before .before .before .coding-term .ensures ∙ ap (λ (s : Bool). codingTerm s (a .reference-letter) (a .altered-letter)) hs) in
-    codon-shown t (a .offset .0) (a .number) (a .c) (a .altered) (a .k) (a .reference-letter) (a .altered-letter) (c .before .before .before .before .shown-letters .result) (c .before .before .of .result .0) e l h
-
-add-t19 : tie.Need-add-t19
-add-t19 c = search needs
-
-returns-2 : tie.Need-returns-2
-returns-2 c = λ t hs hp.
-    let a = c .before .before .before .before .before .args in
-    let e = sym (c .before .shows-codon .ensures t (a .number) hp) ∙ c .if1 .left in
-    let l = c .before .before .before .before .shown-letters .ensures t (a .number) hp in
-    let h = c .before .before .of .ensures ∙ ap only (c .before .before .before .coding-term .ensures ∙ ap (λ (s : Bool). codingTerm s (a .reference-letter) (a .altered-letter)) hs) in
-    codon-hidden t (a .offset .0) (a .number) (a .c) (a .altered) (a .k) (a .reference-letter) (a .altered-letter) (c .before .before .before .before .shown-letters .result) (c .before .before .of .result .0) e l h
+returns c = λ t offset number k hs hp.
+    let a = c .before .before .before .before .args in
+    let e = c .before .before .before .shows-codon .ensures t number hp in
+    let l = c .before .before .shown-letters .ensures t number hp in
+    let h = c .of .ensures ∙ ap only (c .before .coding-term .ensures ∙ ap (λ (s : Bool). codingTerm s (a .reference-letter) (a .altered-letter)) hs) in
+    λ j. record {
+      position = Counted.At (offset + 1);
+      number = cond (e j) (Counted.At number) Counted.Absent;
+      codons = cond (e j) (Codons.Change (a .c) (a .altered) k) Codons.Absent;
+      letters = l j;
+      terms = h j;
+    }
 
 pub whole-codon-spec : {M : Type 1} → statement M
 whole-codon-spec =
     tie.close
-    (tie.spec
-    shown-letters-requires
-    coding-term-requires
-    of-requires
-    shows-codon-requires
-    add-t15
-    returns
-    add-t19
-    returns-2)
+    (tie.spec shows-codon-requires shown-letters-requires coding-term-requires of-requires returns)

@@ -7,7 +7,7 @@ use denote.Ref.{now}
 use Rattle.transcript.specs.Transcript.{Transcript}
 use Rattle.transcript.specs.Question.{isElsewhere}
 use Rattle.consequence.specs.Window.{Window}
-use Rattle.consequence.proofs.Refusals.{away-is, is-15, is-14, is-20, is-16, by-window}
+use Rattle.consequence.proofs.Refusals.{away-is, is-15, is-14, is-16, by-window}
 use borrow.Author.Needs.{needs}
 use Rattle.consequence.proofs.refusal.opening_refusal.Statement.{statement}
 use Rattle.consequence.proofs.refusal.opening_refusal.Tie as tie
@@ -34,29 +34,23 @@ returns-2 c =
     let b = start w in
     λ t h e. is-14 t (window b) (b .args .call) h (omega arith) (away w t e ∙ c .if2 .taken)
 
+bad-alt-requires : tie.Need-bad-alt-requires
+bad-alt-requires c κs = search needs
+
 returns-3 : tie.Need-returns-3
 returns-3 c =
     let w = c .before .before .before in
     let b = start w in
-    λ t h e. is-20 t (window b) (b .args .call) h (omega arith) (away w t e ∙ c .before .before .if2 .left) (c .if3 .taken)
-
-bad-alt-requires : tie.Need-bad-alt-requires
-bad-alt-requires c κs = search needs
-
-returns-4 : tie.Need-returns-4
-returns-4 c =
-    let w = c .before .before .before .before .before in
-    let b = start w in
-    λ t h e. is-16 t (window b) (b .args .call) h (omega arith) (away w t e ∙ c .before .before .before .before .if2 .left) (c .before .before .if3 .left) (sym (c .before .bad-alt .ensures) ∙ c .if4 .taken)
+    λ t h e. is-16 t (window b) (b .args .call) h (omega arith) (away w t e ∙ c .before .before .if2 .left) (sym (c .before .bad-alt .ensures) ∙ c .if3 .taken)
 
 window-refusal-requires : tie.Need-window-refusal-requires
 window-refusal-requires c κs = search needs
 
-returns-5 : tie.Need-returns-5
-returns-5 c =
-    let w = c .before .before .before .before .before .before in
+returns-4 : tie.Need-returns-4
+returns-4 c =
+    let w = c .before .before .before .before in
     let b = start w in
-    λ t h e. c .window-refusal .ensures ∙ by-window t (window b) (b .args .call) h (omega arith) (away w t e ∙ c .before .before .before .before .before .if2 .left) (c .before .before .before .if3 .left) (sym (c .before .before .bad-alt .ensures) ∙ c .before .if4 .left)
+    λ t h e. c .window-refusal .ensures ∙ by-window t (window b) (b .args .call) h (omega arith) (away w t e ∙ c .before .before .before .if2 .left) (sym (c .before .before .bad-alt .ensures) ∙ c .before .if3 .left)
 
 pub opening-refusal-spec : {M : Type 1} → statement M
 opening-refusal-spec =
@@ -65,8 +59,7 @@ opening-refusal-spec =
     returns
     is-elsewhere-requires
     returns-2
-    returns-3
     bad-alt-requires
-    returns-4
+    returns-3
     window-refusal-requires
-    returns-5)
+    returns-4)

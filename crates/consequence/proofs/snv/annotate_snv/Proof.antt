@@ -67,6 +67,12 @@ sum-up-requires c κs = ((refl, refl), admitted (c .before .before .before))
 source-ranges-requires : tie.Need-source-ranges-requires
 source-ranges-requires c κs = search needs
 
+altered-letters-requires : tie.Need-altered-letters-requires
+altered-letters-requires c κs = search needs
+
+call-letters-requires : tie.Need-call-letters-requires
+call-letters-requires c κs = search needs
+
 slice-aggregate-annotate-summed : tie.Need-slice-aggregate-annotate-summed
 slice-aggregate-annotate-summed c = search needs
 
@@ -75,18 +81,18 @@ slice-aggregate-annotate-summed-2 c = search needs
 
 annotate-summed-requires : tie.Need-annotate-summed-requires
 annotate-summed-requires c κs =
-    let b = c .before .before .before .before .before .before .before .before .before .before .before .before .before .before .before .before .before .before in
-    let a = admitted (c .before .before .before .before .before .before .before) in
-    let s = c .before .before .before .sum-up in
-    record {
+    let b = c .before .before .before .before .before .before .before .before .before .before .before .before .before .before .before .before .before .before .before .before .before in
+    let a = admitted (c .before .before .before .before .before .before .before .before .before .before) in
+    let s = c .before .before .before .before .before .before .sum-up in
+    (record {
       admitted = a;
       exons-are = on b exons-summed a (s .last .0) (s .ensures .0 .0);
       segments-are = on b cds-summed a (s .last .1 .0) (s .ensures .0 .1);
-      short-is = c .before .before .before .before .before .before .has-frameshift-intron .ensures ∙ ap (λ (xs : List Interval). any isFrameshiftGap (gaps xs)) (sym (on b exons-are a));
-    }
+      short-is = c .before .before .before .before .before .before .before .before .before .has-frameshift-intron .ensures ∙ ap (λ (xs : List Interval). any isFrameshiftGap (gaps xs)) (sym (on b exons-are a));
+    }, c .before .before .call-letters .ensures)
 
 returns-2 : tie.Need-returns-2
-returns-2 c = rw (c .before .before .before .source-ranges .ensures) at (c .annotate-summed .ensures)
+returns-2 c = rw (c .before .before .before .before .before .before .source-ranges .ensures) at (c .annotate-summed .ensures)
 
 pub annotate-snv-spec : {M : Type 1} → statement M
 annotate-snv-spec =
@@ -100,6 +106,8 @@ annotate-snv-spec =
     has-frameshift-intron-requires
     sum-up-requires
     source-ranges-requires
+    altered-letters-requires
+    call-letters-requires
     slice-aggregate-annotate-summed
     slice-aggregate-annotate-summed-2
     annotate-summed-requires

@@ -23,24 +23,24 @@ on b f = f (b .args .model) (now (b .args .exon-starts)) (now (b .args .exon-end
 
 scalars-of-requires : tie.Need-scalars-of-requires
 scalars-of-requires c κs =
-    let b = c .before .before .before .before .before .before .before .before .before .before in (
-      b .pre .admitted,
-      ((b .pre .exons-are, b .pre .segments-are), b .pre .short-is ∙ ap (λ (xs : List Interval). any isFrameshiftGap (gaps xs)) (on b exons-are (b .pre .admitted))),
+    let b = c .before .before .before .before .before .before .before .before .before .before .before in (
+      b .pre .0 .admitted,
+      ((b .pre .0 .exons-are, b .pre .0 .segments-are), b .pre .0 .short-is ∙ ap (λ (xs : List Interval). any isFrameshiftGap (gaps xs)) (on b exons-are (b .pre .0 .admitted))),
     )
 
 selenocysteine-codons-requires : tie.Need-selenocysteine-codons-requires
-selenocysteine-codons-requires c κs = let b = c .before .before .before .before .before .before .before .before .before .before .before in on b coded (b .pre .admitted) (now (b .args .cumulative-cds)) (b .pre .segments-are)
+selenocysteine-codons-requires c κs = let b = c .before .before .before .before .before .before .before .before .before .before .before .before in on b coded (b .pre .0 .admitted) (now (b .args .cumulative-cds)) (b .pre .0 .segments-are)
 
 annotate-admitted-requires : tie.Need-annotate-admitted-requires
 annotate-admitted-requires c κs =
-    let b = c .before .before .before .before .before .before .before .before .before .before .before .before .before .before in
-    record {
-      admitted = b .pre .admitted;
+    let b = c .before .before .before .before .before .before .before .before .before .before .before .before .before .before .before in
+    (record {
+      admitted = b .pre .0 .admitted;
       scalars-are = c .before .before .before .scalars-of .ensures;
-      exons-are = b .pre .exons-are;
-      segments-are = b .pre .segments-are;
-      codons-are = c .before .before .selenocysteine-codons .ensures ∙ on b codons (b .pre .admitted) (now (b .args .cumulative-cds)) (b .pre .segments-are);
-    }
+      exons-are = b .pre .0 .exons-are;
+      segments-are = b .pre .0 .segments-are;
+      codons-are = c .before .before .selenocysteine-codons .ensures ∙ on b codons (b .pre .0 .admitted) (now (b .args .cumulative-cds)) (b .pre .0 .segments-are);
+    }, b .pre .1)
 
 returns : tie.Need-returns
 returns c = search needs
