@@ -1,4 +1,5 @@
--- The premises of demand 3 are met: the pair of each strand, computed.
+-- The premises of demand 3 are met: the pairs of each strand, computed.
+use Prim.Native.Nat.{ℕ}
 use mathlib.Core.Path.{refl}
 use mathlib.Core.List.{[], _∷_}
 use native.Mathlib.Omega.{arith}
@@ -20,9 +21,9 @@ use Rattle.terms.specs.Terms.{withTerm, withoutTerm, spillTerms}
 use Rattle.demands.specs.Longer.{endAtFrom, spacedUpTo, spacedFrom, Longer}
 use Rattle.demands.specs.claims.Pairs.{shorter, longer, Pairs}
 
-plus-longer : Longer (shorter Plus) (longer Plus)
+plus-longer : (n : ℕ) → Longer (shorter n Plus) (longer n Plus)
 unfolding exonsOf segmentsOf oriented endAfter endAtFrom spacedUpTo spacedFrom
-plus-longer = record {
+plus-longer n = record {
   before = orient Plus 50 80 ∷ [];
   after = orient Plus 215 230 ∷ [];
   begin = orient Plus 95 130 .start;
@@ -40,9 +41,9 @@ plus-longer = record {
   selenocysteine = λ b. refl;
 }
 
-minus-longer : Longer (shorter Minus) (longer Minus)
+minus-longer : (n : ℕ) → Longer (shorter n Minus) (longer n Minus)
 unfolding exonsOf segmentsOf oriented endAfter endAtFrom spacedUpTo spacedFrom
-minus-longer = record {
+minus-longer n = record {
   before = orient Minus 215 230 ∷ [];
   after = orient Minus 50 80 ∷ [];
   begin = orient Minus 160 195 .start;
@@ -62,5 +63,11 @@ minus-longer = record {
 
 pub pairs : Pairs
 unfolding exonsOf segmentsOf any oriented badCounts badCoordinates ascending indexFault cuts sameCuts admission endAfter basesIn findAfter findExonOrIntron intervalIndex exonic locate gapsAfter exonicSpliceSpill baseNumber questionRefusal openingRefusal callRefusal callResult placeResult annotateSnv spillTerms withTerm withoutTerm plus-longer minus-longer
-pairs Plus = record { admittedShorter = refl; admittedLonger = refl; isLonger = plus-longer; before = refl; after = refl; inside = refl; near = refl; notNear = refl; shorterTerms = refl; longerTerms = refl }
-pairs Minus = record { admittedShorter = refl; admittedLonger = refl; isLonger = minus-longer; before = refl; after = refl; inside = refl; near = refl; notNear = refl; shorterTerms = refl; longerTerms = refl }
+pairs Plus = (
+  record { admittedShorter = refl; admittedLonger = refl; isLonger = plus-longer 1; before = refl; after = refl; inside = refl; near = refl; notNear = refl; shorterTerms = refl; longerTerms = refl },
+  record { admittedShorter = refl; admittedLonger = refl; isLonger = plus-longer 25; before = refl; after = refl; inside = refl; near = refl; notNear = refl; shorterTerms = refl; longerTerms = refl },
+)
+pairs Minus = (
+  record { admittedShorter = refl; admittedLonger = refl; isLonger = minus-longer 1; before = refl; after = refl; inside = refl; near = refl; notNear = refl; shorterTerms = refl; longerTerms = refl },
+  record { admittedShorter = refl; admittedLonger = refl; isLonger = minus-longer 25; before = refl; after = refl; inside = refl; near = refl; notNear = refl; shorterTerms = refl; longerTerms = refl },
+)
