@@ -8,12 +8,11 @@ use lib.Dec.{eqb}
 use borrow.Author.Tests.{ne-eqb}
 use Rattle.common.specs.Refuse.{orElse}
 use Rattle.transcript.specs.Transcript.{Transcript}
-use Rattle.transcript.specs.Orient.{interval, orientBase, oriented}
+use Rattle.transcript.specs.Orient.{orientBase, oriented}
 use Rattle.transcript.specs.Admission.{admission}
 use Rattle.transcript.proofs.Asking.{is-refused}
 use Rattle.footprint.specs.declared.SpliceSpill.{SpliceSpill}
 use Rattle.footprint.specs.declared.Ranges.{Ranges}
-use Rattle.footprint.specs.ShortIntron.{exonicSpliceSpill}
 use Rattle.locate.specs.declared.VariantLocation.{VariantLocation}
 use Rattle.locate.specs.Place.{locate}
 use Rattle.locate.specs.PlaceKind.{isDistal}
@@ -24,12 +23,7 @@ use Rattle.consequence.specs.Window.{Window, windowFrom, baseAt, codingB
 use Rattle.consequence.specs.Reading.{cdsBase, fetchBases}
 use Rattle.consequence.specs.Answer.{placeResult}
 use Rattle.consequence.specs.Call.{callTable, addSpliceSpill, callPlace, callCodon, lacksCodon, openingRefusal, closingRefusal, callRefusal, callResult, annotateSnv}
-use Rattle.consequence.specs.code.AtPlace.{placeCalled}
-
--- the spill added to an answer
-abbrev pub spilled : SpliceSpill → Called → Called
-spilled s (Called.Answered a) = Called.Answered (addSpliceSpill s a)
-spilled s (Called.Refused n) = Called.Refused n
+use Rattle.consequence.specs.code.AtPlace.{placeCalled, spillAt, spilled}
 
 pub refused-same : (s : SpliceSpill) (x : Called) (n : ℕ) → x ≡ Called.Refused n → x ≡ spilled s x
 refused-same s x n e = e ∙ sym (ap (spilled s) e)
@@ -59,9 +53,6 @@ module _ (r : Ranges) (t : Transcript) (w : Window) (q : Call) where
   unfolding fetchBases cdsBase baseAt
   codon-read = refl
 
-  abbrev spill : ℕ → SpliceSpill
-  spill n = exonicSpliceSpill (oriented t) (interval n (n + 1))
-
   abbrev base : ℕ
   base = orientBase (t .model .strand) (q .position)
 
@@ -71,10 +62,10 @@ module _ (r : Ranges) (t : Transcript) (w : Window) (q : Call) where
   -- the answer at the place with its spill
   pub answered : openingRefusal t w q ≡ 0 → (p : ℕ) → p ≡ base → (place : VariantLocation) → place ≡ locate r (oriented t) p
       → (x : Called) → x ≡ placeCalled (callTable t) (oriented t) p (codingByte (t .model .strand) (q .«alt_base»)) (callCodon t (windowFrom (w .first) (w .bytes))) place
-      → (s : SpliceSpill) → s ≡ spill p → spilled s x ≡ annotateSnv r t w q
+      → (s : SpliceSpill) → s ≡ spillAt (oriented t) p → spilled s x ≡ annotateSnv r t w q
   unfolding annotateSnv callRefusal callResult placeCalled
   answered h p ep place el x ex s es =
       (λ k. spilled (es k) (ex k))
-      ∙ (λ k. spilled (spill p) (placeCalled (callTable t) (oriented t) p (codingByte (t .model .strand) (q .«alt_base»)) (codon-read k) (el k)))
-      ∙ ap (λ (n : ℕ). spilled (spill n) (placeCalled (callTable t) (oriented t) n (codingByte (t .model .strand) (q .«alt_base»)) (callCodon t w) (locate r (oriented t) n))) ep
-      ∙ rw h (spilled-cond (spill base) (eqb closing 0) (placeResult (callTable t) (oriented t) base (codingByte (t .model .strand) (q .«alt_base»)) (callCodon t w) (callPlace r t q)) closing)
+      ∙ (λ k. spilled (spillAt (oriented t) p) (placeCalled (callTable t) (oriented t) p (codingByte (t .model .strand) (q .«alt_base»)) (codon-read k) (el k)))
+      ∙ ap (λ (n : ℕ). spilled (spillAt (oriented t) n) (placeCalled (callTable t) (oriented t) n (codingByte (t .model .strand) (q .«alt_base»)) (callCodon t w) (locate r (oriented t) n))) ep
+      ∙ rw h (spilled-cond (spillAt (oriented t) base) (eqb closing 0) (placeResult (callTable t) (oriented t) base (codingByte (t .model .strand) (q .«alt_base»)) (callCodon t w) (callPlace r t q)) closing)

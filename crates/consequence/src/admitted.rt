@@ -1,10 +1,8 @@
 // The single-base call on an admitted transcript.
 use super::Call;
 use super::Called;
-use super::answer::add_splice_spill;
-use super::place::annotate_place;
+use super::placed::annotate_placed;
 use super::refusal::opening_refusal;
-use super::spill::spill_at;
 use footprint::Ranges;
 use locate::IndexScalars;
 use locate::place::place_of_base;
@@ -72,7 +70,7 @@ pub fn annotate_admitted(
         cumulative_exons,
         p,
     );
-    let placed = annotate_place(
+    annotate_placed(
         ranges,
         letters,
         window_first,
@@ -92,16 +90,5 @@ pub fn annotate_admitted(
         selenocysteine_codons,
         place,
         p,
-    );
-    let Called::Answered(result) = placed else {
-        return placed;
-    };
-    let spill = spill_at(
-        scalars.has_frameshift_intron,
-        exon_starts,
-        exon_ends,
-        strand,
-        p,
-    );
-    Called::Answered(add_splice_spill(spill, result))
+    )
 }

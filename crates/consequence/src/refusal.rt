@@ -46,7 +46,7 @@ fn window_refusal(first: u64, bytes: &[u8], call: Call) -> u8
 }
 
 // 15, 14, 16, 17 and 18, and 0 for none. The call asks about [p, p + 1).
-pub(crate) fn opening_refusal(
+pub fn opening_refusal(
     chromosome: u16,
     window_chromosome: u16,
     first: u64,

@@ -43,7 +43,7 @@ fn frameshift_term(coding: bool) -> Consequence
 }
 
 // The splice mark adds its term.
-pub(crate) fn with_mark(terms: TermSet, mark: bool) -> TermSet
+pub fn with_mark(terms: TermSet, mark: bool) -> TermSet
     ensures { λ r. ⌜ r .0 ≡ withMark mark (terms .0) ⌝ }
 {
     terms.with_if(mark, Consequence::SpliceRegionVariant)

@@ -45,7 +45,7 @@ fn hits_acceptor(starts: &[u64], ends: &[u64], strand: Strand, n: usize, p: u64)
 }
 
 // The windows that p, an oriented base, hits. Without a short intron, `short`, there are none.
-pub(crate) fn spill_at(
+pub fn spill_at(
     short: bool,
     starts: &[u64],
     ends: &[u64],

@@ -4,7 +4,9 @@ use mathlib.Core.Bool.{cond, Bool}
 use mathlib.Core.List.{List}
 use Rattle.locate.specs.declared.VariantLocation.{VariantLocation}
 use Rattle.locate.specs.declared.CdsOffset.{CdsOffset}
-use Rattle.transcript.specs.Orient.{Oriented}
+use Rattle.transcript.specs.Orient.{interval, Oriented}
+use Rattle.footprint.specs.declared.SpliceSpill.{SpliceSpill}
+use Rattle.footprint.specs.ShortIntron.{exonicSpliceSpill}
 use Rattle.consequence.specs.declared.FetchedCodon.{FetchedCodon}
 use Rattle.codon.specs.declared.Codons.{Codons}
 use Rattle.consequence.specs.declared.Counted.{Counted}
@@ -15,7 +17,7 @@ use lib.Dec.{eqb}
 use Rattle.locate.specs.PlaceKind.{isDistal}
 use Rattle.consequence.specs.declared.Called.{Called}
 use Rattle.consequence.specs.Answer.{noCodon, codonColumns, codonResult, placeResult, Columns}
-use Rattle.consequence.specs.Call.{lacksCodon, closingRefusal}
+use Rattle.consequence.specs.Call.{addSpliceSpill, lacksCodon, closingRefusal}
 
 -- the columns of a codon as the code hands them on: of that padded offset and number, with the changed base at place k
 abbrev pub columnsOf : ℕ → ℕ → ℕ → CodonColumns → Columns
@@ -52,3 +54,12 @@ placeCalled code t p alt codon place =
     cond (eqb (closingRefusal (isDistal place) (lacksCodon codon place)) 0)
     (Called.Answered (placeResult code t p alt codon place))
     (Called.Refused (closingRefusal (isDistal place) (lacksCodon codon place)))
+
+-- the spill of the base at p
+abbrev pub spillAt : Oriented → ℕ → SpliceSpill
+spillAt t p = exonicSpliceSpill t (interval p (p + 1))
+
+-- the spill added to an answer
+abbrev pub spilled : SpliceSpill → Called → Called
+spilled s (Called.Answered a) = Called.Answered (addSpliceSpill s a)
+spilled s (Called.Refused n) = Called.Refused n

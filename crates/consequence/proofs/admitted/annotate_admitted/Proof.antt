@@ -19,7 +19,7 @@ use Rattle.consequence.specs.Call.{openingRefusal, annotateSnv}
 use Rattle.consequence.specs.code.Prepared.{Prepared}
 use Rattle.consequence.proofs.Refusals.{opening-within}
 use Rattle.consequence.proofs.Preparing.{exons-at, exons-ready}
-use Rattle.consequence.proofs.Calling.{spilled, refused-same, refused, answered}
+use Rattle.consequence.proofs.Calling.{refused, answered}
 use borrow.Author.Needs.{needs}
 use Rattle.consequence.proofs.admitted.annotate_admitted.Statement.{statement}
 use Rattle.consequence.proofs.admitted.annotate_admitted.Tie as tie
@@ -50,17 +50,6 @@ within c = opening-within (transcript (start c)) (window (start c)) (start c .ar
 low : (c : tie.After-base-of) → c .base-of .result ≤ top
 low c = let b = start (c .before) in rw (c .base-of .ensures) (base-low (b .args .model .strand) (b .args .call .position) (within (c .before)))
 
--- the spill of the base, and the answer at the place with it
-abbrev spill : tie.After-base-of → SpliceSpill
-spill c = exonicSpliceSpill (oriented (transcript (start (c .before)))) (interval (c .base-of .result) (c .base-of .result + 1))
-
-whole : (c : tie.After-annotate-place) (s : SpliceSpill) → s ≡ spill (c .before .before)
-    → spilled s (c .annotate-place .result) ≡ annotateSnv (start (c .before .before .before) .args .ranges) (transcript (start (c .before .before .before))) (window (start (c .before .before .before))) (start (c .before .before .before) .args .call)
-whole c s e =
-    let b = start (c .before .before .before) in
-    answered (b .args .ranges) (transcript b) (window b) (b .args .call) (opened (c .before .before .before)) (c .before .before .base-of .result) (c .before .before .base-of .ensures) (c .before .place-of-base .result) (c .before .place-of-base .ensures)
-    (c .annotate-place .result) (c .annotate-place .ensures) s e
-
 opening-refusal-requires : tie.Need-opening-refusal-requires
 opening-refusal-requires c κs = search needs
 
@@ -76,30 +65,15 @@ base-of-requires c κs = search needs
 place-of-base-requires : tie.Need-place-of-base-requires
 place-of-base-requires c κs = let h = start (c .before) .pre .0 in (h .admitted, ((h .scalars-are, h .exons-are), low c))
 
-annotate-place-requires : tie.Need-annotate-place-requires
-annotate-place-requires c κs = search needs
-
-enum-known-placed : tie.Need-enum-known-placed
-enum-known-placed c = search needs
-
-enum-told : tie.Need-enum-told
-enum-told c = search needs
+annotate-placed-requires : tie.Need-annotate-placed-requires
+annotate-placed-requires c κs = let b = start (c .before .before) in (b .pre .0, (c .place-of-base .ensures, (b .pre .1, low (c .before))))
 
 returns-2 : tie.Need-returns-2
-returns-2 c = refused-same (spill (c .before .before .before .before)) (c .before .before .annotate-place .result) _ (c .enum-told .given .1) ∙ whole (c .before .before) (spill (c .before .before .before .before)) refl
-
-spill-at-requires : tie.Need-spill-at-requires
-spill-at-requires c κs = (on (start (c .before .before .before .before .before .before)) exons-ready, low (c .before .before .before .before .before))
-
-add-splice-spill-requires : tie.Need-add-splice-spill-requires
-add-splice-spill-requires c κs = search needs
-
-returns-3 : tie.Need-returns-3
-returns-3 c =
-    let b = start (c .before .before .before .before .before .before .before .before) in
-    let s = c .before .spill-at in
-    ap Called.Answered (c .add-splice-spill .ensures) ∙ ap (spilled (s .result)) (sym (c .before .before .before .placed .given .1))
-    ∙ whole (c .before .before .before .before .before) (s .result) (s .ensures (oriented (transcript b)) (on b exons-at) (ap (λ (x : IndexScalars). x .«has_frameshift_intron») (b .pre .0 .scalars-are)))
+returns-2 c =
+    let b = start (c .before .before .before) in
+    c .annotate-placed .ensures
+    ∙ answered (b .args .ranges) (transcript b) (window b) (b .args .call) (opened (c .before .before .before)) (c .before .before .base-of .result) (c .before .before .base-of .ensures)
+    (c .before .place-of-base .result) (c .before .place-of-base .ensures) _ refl _ refl
 
 pub annotate-admitted-spec : {M : Type 1} → statement M
 annotate-admitted-spec =
@@ -109,10 +83,5 @@ annotate-admitted-spec =
     returns
     base-of-requires
     place-of-base-requires
-    annotate-place-requires
-    enum-known-placed
-    enum-told
-    returns-2
-    spill-at-requires
-    add-splice-spill-requires
-    returns-3)
+    annotate-placed-requires
+    returns-2)
