@@ -28,6 +28,7 @@ pub use code::call_letters;
 use codon::AminoAcids;
 use codon::Codon;
 use codon::Codons;
+pub use columns::CodonColumns;
 use locate::CdnaPosition;
 use locate::VariantLocation;
 pub use placed::annotate_placed;

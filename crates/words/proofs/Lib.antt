@@ -1,3 +1,4 @@
 pub mod Putting
 pub mod WordLengths
 pub mod Capping
+pub mod Shown

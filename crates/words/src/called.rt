@@ -25,7 +25,7 @@ fn put_result(out: &mut [i64], at: usize, a: ConsequenceResult)
 }
 
 // The number of a refusal with zeros behind it.
-fn put_refusal(out: &mut [i64], at: usize, n: u8)
+pub fn put_refusal(out: &mut [i64], at: usize, n: u8)
     requires { ⌜ at + 20 ≤ length (now out) ⌝ }
     ensures { λ _. ⌜ now out.exit ≡ sets (now out.entry) at (calledWords (Called.Refused n)) ⌝ }
 {

@@ -56,7 +56,7 @@ fn packed(a: u8, b: u8, c: u8, d: u8) -> u32
     a as u32 + 256 * b as u32 + 65536 * c as u32 + 16777216 * d as u32
 }
 
-fn codon_word(c: Codon) -> u32
+pub(crate) fn codon_word(c: Codon) -> u32
     ensures { λ r. ⌜ r ≡ codonWord c ⌝ }
 {
     packed(c.len, c.first, c.second, c.third)
@@ -101,7 +101,7 @@ fn changed_place(codons: Codons) -> u32
     }
 }
 
-fn letters_word(letters: AminoAcids) -> u32
+pub(crate) fn letters_word(letters: AminoAcids) -> u32
     ensures { λ r. ⌜ r ≡ lettersWord letters ⌝ }
 {
     match letters {

@@ -2,6 +2,7 @@
 // buffer as signed numbers.
 mod call;
 mod called;
+mod coding;
 mod columns;
 mod flanks;
 mod lengths;
@@ -12,6 +13,8 @@ mod words;
 
 pub use call::call_of;
 pub use called::put_called;
+pub use called::put_refusal;
+pub use coding::put_coding;
 pub use flanks::put_interval;
 pub use lengths::calls_fit;
 pub use located::put_located;

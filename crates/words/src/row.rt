@@ -1,12 +1,14 @@
 // A place as a row of numbers.
 use crate::words::cap;
 use crate::words::signed;
+use locate::CdsOffset;
 use locate::SpliceSide;
 use locate::VariantLocation;
 ghost use mathlib.Core.Path.{_≡_};
 ghost use mathlib.Core.List.{_∷_};
 ghost use lib.IntN.{pos};
 ghost use Rattle.common.specs.Flag.{flag};
+ghost use Rattle.locate.specs.declared.VariantLocation.the-variants.{CdsExon};
 ghost use Rattle.locate.specs.Numbers.{sideNumber, plainWords, placeWords};
 ghost use Rattle.words.specs.code.Row.{rowWords};
 ghost use Rattle.words.specs.code.Near.{cappedPlace};
@@ -52,6 +54,28 @@ fn plain(kind: u32, mark: u32, index: u16, distance: i64) -> Row
     }
 }
 
+// The row of a coding base.
+pub(crate) fn coding_row(
+    index: u16,
+    segment: u16,
+    offset: CdsOffset,
+    number: u32,
+    position: u8,
+    mark: bool,
+) -> Row
+    ensures { λ r. ⌜ rowWords r ≡ placeWords (CdsExon index segment offset number position mark) ⌝ }
+{
+    Row {
+        kind: 4,
+        mark: flag_of(mark),
+        index: index as u32,
+        segment: segment as u32,
+        position: position as u32,
+        distance: signed(offset.0),
+        number,
+    }
+}
+
 pub(crate) fn row_of(place: VariantLocation) -> Row
     ensures { λ r. ⌜ rowWords r ≡ placeWords (cappedPlace place) ⌝ }
 {
@@ -76,15 +100,14 @@ pub(crate) fn row_of(place: VariantLocation) -> Row
             codon_number,
             codon_position,
             is_splice_region,
-        } => Row {
-            kind: 4,
-            mark: flag_of(is_splice_region),
-            index: exon_index as u32,
-            segment: cds_segment_index as u32,
-            position: codon_position as u32,
-            distance: signed(cds_offset.0),
-            number: codon_number,
-        },
+        } => coding_row(
+            exon_index,
+            cds_segment_index,
+            cds_offset,
+            codon_number,
+            codon_position,
+            is_splice_region,
+        ),
         VariantLocation::ThreePrimeUtr {
             exon_index,
             offset_from_cds_end,

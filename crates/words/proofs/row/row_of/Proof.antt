@@ -48,26 +48,14 @@ plain-requires-4 c κs = search needs
 enum-known-place-4 : tie.Need-enum-known-place-4
 enum-known-place-4 c = search needs
 
-flag-of-requires-2 : tie.Need-flag-of-requires-2
-flag-of-requires-2 c κs = search needs
-
-cast-t38 : tie.Need-cast-t38
-cast-t38 c = search needs
-
-cast-t39 : tie.Need-cast-t39
-cast-t39 c = search needs
-
-cast-t40 : tie.Need-cast-t40
-cast-t40 c = search needs
-
-signed-requires-3 : tie.Need-signed-requires-3
-signed-requires-3 c κs = search needs
+coding-row-requires : tie.Need-coding-row-requires
+coding-row-requires c κs = search needs
 
 enum-known-place-5 : tie.Need-enum-known-place-5
 enum-known-place-5 c = search needs
 
-flag-of-requires-3 : tie.Need-flag-of-requires-3
-flag-of-requires-3 c κs = search needs
+flag-of-requires-2 : tie.Need-flag-of-requires-2
+flag-of-requires-2 c κs = search needs
 
 plain-requires-5 : tie.Need-plain-requires-5
 plain-requires-5 c κs = search needs
@@ -78,8 +66,8 @@ enum-known-place-6 c = search needs
 cast-signed : tie.Need-cast-signed
 cast-signed c = search needs
 
-signed-requires-4 : tie.Need-signed-requires-4
-signed-requires-4 c κs = search needs
+signed-requires-3 : tie.Need-signed-requires-3
+signed-requires-3 c κs = search needs
 
 plain-requires-6 : tie.Need-plain-requires-6
 plain-requires-6 c κs = search needs
@@ -90,8 +78,8 @@ enum-known-place-7 c = search needs
 cast-signed-2 : tie.Need-cast-signed-2
 cast-signed-2 c = search needs
 
-signed-requires-5 : tie.Need-signed-requires-5
-signed-requires-5 c κs = search needs
+signed-requires-4 : tie.Need-signed-requires-4
+signed-requires-4 c κs = search needs
 
 plain-requires-7 : tie.Need-plain-requires-7
 plain-requires-7 c κs = search needs
@@ -120,8 +108,8 @@ plain-requires-10 c κs = search needs
 enum-known-place-11 : tie.Need-enum-known-place-11
 enum-known-place-11 c = search needs
 
-flag-of-requires-4 : tie.Need-flag-of-requires-4
-flag-of-requires-4 c κs = search needs
+flag-of-requires-3 : tie.Need-flag-of-requires-3
+flag-of-requires-3 c κs = search needs
 
 plain-requires-11 : tie.Need-plain-requires-11
 plain-requires-11 c κs = search needs
@@ -145,16 +133,16 @@ returns-4 : tie.Need-returns-4
 returns-4 c = c .plain4 .ensures ∙ rw (c .before .before .before .place3 .given .1, c .before .flag-of .ensures, back (c .before .before .before .place3 .given .0 .1 .0) (c .before .before .known-told3 .given .1 .0 .1))
 
 returns-5 : tie.Need-returns-5
-returns-5 c = rw (c .before .before .before .place4 .given .1, c .before .flag-of2 .ensures, back (c .signed3 .result) (c .signed3 .ok), c .signed3 .ensures)
+returns-5 c = c .coding-row .ensures ∙ rw (c .before .before .place4 .given .1)
 
 returns-6 : tie.Need-returns-6
-returns-6 c = c .plain5 .ensures ∙ rw (c .before .before .before .place5 .given .1, c .before .flag-of3 .ensures, back (c .before .before .before .place5 .given .0 .1 .0) (c .before .before .known-told5 .given .1 .0 .1))
+returns-6 c = c .plain5 .ensures ∙ rw (c .before .before .before .place5 .given .1, c .before .flag-of2 .ensures, back (c .before .before .before .place5 .given .0 .1 .0) (c .before .before .known-told5 .given .1 .0 .1))
 
 returns-7 : tie.Need-returns-7
-returns-7 c = c .plain6 .ensures ∙ rw (c .before .before .before .place6 .given .1, back (c .before .signed4 .result) (c .before .signed4 .ok), c .before .signed4 .ensures)
+returns-7 c = c .plain6 .ensures ∙ rw (c .before .before .before .place6 .given .1, back (c .before .signed3 .result) (c .before .signed3 .ok), c .before .signed3 .ensures)
 
 returns-8 : tie.Need-returns-8
-returns-8 c = c .plain7 .ensures ∙ rw (c .before .before .before .place7 .given .1, back (c .before .signed5 .result) (c .before .signed5 .ok), c .before .signed5 .ensures)
+returns-8 c = c .plain7 .ensures ∙ rw (c .before .before .before .place7 .given .1, back (c .before .signed4 .result) (c .before .signed4 .ok), c .before .signed4 .ensures)
 
 returns-9 : tie.Need-returns-9
 returns-9 c = c .plain8 .ensures ∙ rw (c .before .before .before .place8 .given .1, c .before .side-number .ensures, back (c .before .before .before .place8 .given .0 .1 .1 .0) (c .before .before .known-told8 .given .1 .1 .0 .1))
@@ -166,7 +154,7 @@ returns-11 : tie.Need-returns-11
 returns-11 c = c .plain10 .ensures ∙ rw (c .before .before .place10 .given .1, back (c .before .before .place10 .given .0 .1 .0) (c .before .known-told10 .given .1 .0 .1))
 
 returns-12 : tie.Need-returns-12
-returns-12 c = c .plain11 .ensures ∙ rw (c .before .before .before .place11 .given .1, c .before .flag-of4 .ensures)
+returns-12 c = c .plain11 .ensures ∙ rw (c .before .before .before .place11 .given .1, c .before .flag-of3 .ensures)
 
 returns-13 : tie.Need-returns-13
 returns-13 c = c .plain12 .ensures ∙ rw (c .before .before .place12 .given .1, back (c .before .before .place12 .given .0 .1 .0) (c .before .known-told12 .given .1 .0 .1))
@@ -189,21 +177,17 @@ row-of-spec =
     flag-of-requires
     plain-requires-4
     enum-known-place-4
-    flag-of-requires-2
-    cast-t38
-    cast-t39
-    cast-t40
-    signed-requires-3
+    coding-row-requires
     enum-known-place-5
-    flag-of-requires-3
+    flag-of-requires-2
     plain-requires-5
     enum-known-place-6
     cast-signed
-    signed-requires-4
+    signed-requires-3
     plain-requires-6
     enum-known-place-7
     cast-signed-2
-    signed-requires-5
+    signed-requires-4
     plain-requires-7
     enum-known-place-8
     side-number-requires
@@ -213,7 +197,7 @@ row-of-spec =
     enum-known-place-10
     plain-requires-10
     enum-known-place-11
-    flag-of-requires-4
+    flag-of-requires-3
     plain-requires-11
     enum-known-place-12
     plain-requires-12
