@@ -1,6 +1,8 @@
 // The answers to many calls on one transcript.
+use crate::snv::put_snv;
+use codon::altered_letters;
 use consequence::Call;
-use consequence::annotate_admitted;
+use consequence::call_letters;
 use footprint::Ranges;
 use footprint::source_ranges;
 use locate::IndexScalars;
@@ -11,11 +13,12 @@ use transcript::admit;
 use transcript::question::refusal_number;
 use words::CALL_WORDS;
 use words::calls_fit;
-use words::put_called;
 ghost use mathlib.Core.Path.{_≡_};
 ghost use Prim.Native.Nat.{_<_, _^_};
 ghost use Rattle.transcript.specs.Transcript.{given, wasGiven};
+ghost use Rattle.codon.specs.code.Letters.{AlteredLetters};
 ghost use Rattle.consequence.specs.Window.{windowWasGiven};
+ghost use Rattle.consequence.specs.Call.{callTable};
 ghost use mathlib.Core.Bool.{true};
 ghost use Rattle.consequence.specs.code.Prepared.{Prepared};
 ghost use Rattle.words.specs.Lengths.{callsFit};
@@ -24,6 +27,7 @@ ghost use Rattle.answers.specs.Calls.{callsOf, callsWords, CallsAnswered
 // The answers one behind the other.
 fn put_calls(
     ranges: Ranges,
+    letters: &[u8],
     window_chromosome: u16,
     window_first: u64,
     window: &[u8],
@@ -48,7 +52,8 @@ fn put_calls(
     requires { let t = given model «exon_starts» «exon_ends» «seg_phases» «seg_exons» «seg_starts» «seg_ends» selenocysteine in
         ⌜ Prepared t scalars (now «cumulative_exons») (now «cumulative_cds») (now «selenocysteine_codons») ⌝
         ∗ ⌜ ranges .flank < 2 ^ 32 ⌝
-        ∗ ⌜ callsFit (now chromosomes) (now positions) (now refs) (now alts) (now out) ≡ true ⌝ }
+        ∗ ⌜ callsFit (now chromosomes) (now positions) (now refs) (now alts) (now out) ≡ true ⌝
+        ∗ ⌜ AlteredLetters (callTable t) (now letters) ⌝ }
     ensures { λ _.
         let t = wasGiven model «exon_starts» «exon_ends» «seg_phases» «seg_exons» «seg_starts» «seg_ends» selenocysteine in
         let w = windowWasGiven «window_chromosome» «window_first» window in
@@ -63,8 +68,9 @@ fn put_calls(
             ref_base: refs[i],
             alt_base: alts[i],
         };
-        let called = annotate_admitted(
+        put_snv(
             ranges,
+            letters,
             window_chromosome,
             window_first,
             window,
@@ -81,8 +87,9 @@ fn put_calls(
             cumulative_exons,
             cumulative_cds,
             selenocysteine_codons,
+            out,
+            CALL_WORDS * i,
         );
-        put_called(out, CALL_WORDS * i, called);
         i += 1;
     }
 }
@@ -127,6 +134,8 @@ pub fn answer_calls(
     let Admission::Admitted = admitted else {
         return refusal_number(admitted);
     };
+    let both = altered_letters();
+    let letters = call_letters(&both, model.chromosome);
     let index = index_of(
         model,
         exon_starts,
@@ -144,6 +153,7 @@ pub fn answer_calls(
     let ranges = source_ranges();
     put_calls(
         ranges,
+        letters,
         window_chromosome,
         window_first,
         window,

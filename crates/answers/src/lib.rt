@@ -1,11 +1,13 @@
 // The answers to the questions, left as numbers or as a line in a lent buffer.
 mod call;
 mod calls;
+mod cds;
 mod interval;
 mod line;
 mod place;
 mod places;
 mod position;
+mod snv;
 
 pub use call::answer_call;
 pub use calls::answer_calls;

@@ -80,8 +80,14 @@ returns-2 c =
     let n = c .refusal-number .ensures ∙ number-is (transcript b) (a .result) (a .ensures) in
     list-refused (fits b) (admission (transcript b)) (words b) (now (b .args .out)) (fit e) (c .refusal-number .result) (sym n) (omega arith)
 
+altered-letters-requires : tie.Need-altered-letters-requires
+altered-letters-requires c κs = search needs
+
+call-letters-requires : tie.Need-call-letters-requires
+call-letters-requires c κs = search needs
+
 index-of-requires : tie.Need-index-of-requires
-index-of-requires c κs = admitted c
+index-of-requires c κs = admitted (c .before .before .before)
 
 source-ranges-requires : tie.Need-source-ranges-requires
 source-ranges-requires c κs = search needs
@@ -95,8 +101,8 @@ slice-aggregate-put-calls-2 c = search needs
 put-calls-requires : tie.Need-put-calls-requires
 put-calls-requires c κs =
     let i = c .before .before .before .before .before .before .before .before .before .index-of .ensures in
-    let a = admitted (c .before .before .before .before .before .before .before .before .before .before) in
-    let b = start (c .before .before .before .before .before .before .before .before .before .before .before .before .before) in (
+    let a = admitted (c .before .before .before .before .before .before .before .before .before .before .before .before .before) in
+    let b = start (c .before .before .before .before .before .before .before .before .before .before .before .before .before .before .before .before) in (
       record {
         admitted = a;
         scalars-are = ap (λ (x : LocateIndex). x .scalars) i;
@@ -106,7 +112,7 @@ put-calls-requires c κs =
       },
       (
         flank-low (c .before .before .before .before .source-ranges .result) (c .before .before .before .before .source-ranges .ensures),
-        fit (c .before .before .before .before .before .before .before .before .before .before .before .before .before),
+        (fit (c .before .before .before .before .before .before .before .before .before .before .before .before .before .before .before .before), c .before .before .before .before .before .before .before .before .before .before .call-letters .ensures),
       ),
     )
 
@@ -115,9 +121,9 @@ same-length-3 c = search needs
 
 returns-3 : tie.Need-returns-3
 returns-3 c =
-    let e = c .before .before .before .before .before .before .before .before .before .before .before .before .before .before .before in
+    let e = c .before .before .before .before .before .before .before .before .before .before .before .before .before .before .before .before .before .before in
     let b = start e in
-    list-answered (fits b) (admission (transcript b)) (words b) (now (b .args .out)) (fit e) (admitted (c .before .before .before .before .before .before .before .before .before .before .before .before)) _ (rw (c .before .before .before .before .before .before .source-ranges .ensures) at (c .before .put-calls .ensures))
+    list-answered (fits b) (admission (transcript b)) (words b) (now (b .args .out)) (fit e) (admitted (c .before .before .before .before .before .before .before .before .before .before .before .before .before .before .before)) _ (rw (c .before .before .before .before .before .before .source-ranges .ensures) at (c .before .put-calls .ensures))
 
 pub answer-calls-spec : {M : Type 1} → statement M
 answer-calls-spec =
@@ -132,6 +138,8 @@ answer-calls-spec =
     refusal-number-requires
     same-length-2
     returns-2
+    altered-letters-requires
+    call-letters-requires
     index-of-requires
     source-ranges-requires
     slice-aggregate-put-calls

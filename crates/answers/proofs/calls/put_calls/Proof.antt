@@ -10,27 +10,22 @@ use lib.Seq.{sets}
 use denote.Ref.{now}
 use Rattle.transcript.specs.Transcript.{Transcript, lent}
 use Rattle.consequence.specs.declared.Call.{Call}
-use Rattle.consequence.specs.declared.Called.{Called}
 use Rattle.consequence.specs.Window.{Window}
 use Rattle.consequence.specs.Call.{annotateSnv}
-use Rattle.consequence.specs.Numbers.{calledWords}
 use Rattle.words.proofs.WordLengths.{called-length}
 use Rattle.answers.specs.Calls.{snv, callsOf, callWords}
-use Rattle.words.specs.code.Near.{NearCalled}
-use Rattle.words.proofs.Capping.{called-fits}
 use Rattle.answers.proofs.Blocks.{filledTo, filled-none, filled-length, filled-more, filled-all}
-use Rattle.answers.proofs.CallRefused.{near-called}
 use Rattle.answers.proofs.CallList.{Even, fit-even, fit-room, calls-length, call-at}
 use Rattle.answers.proofs.calls.put_calls.Statement.{statement}
 use Rattle.answers.proofs.calls.put_calls.Tie as tie
 
 abbrev Inv-loop : tie.InvT-loop
-Inv-loop ranges window-chromosome window-first window chromosomes positions refs alts model exon-starts exon-ends seg-phases seg-exons seg-starts seg-ends selenocysteine scalars cumulative-exons cumulative-cds selenocysteine-codons out₀ i₀ out i =
+Inv-loop ranges letters window-chromosome window-first window chromosomes positions refs alts model exon-starts exon-ends seg-phases seg-exons seg-starts seg-ends selenocysteine scalars cumulative-exons cumulative-cds selenocysteine-codons out₀ i₀ out i =
     (i ≤ length positions)
     × (out ≡ filledTo (callWords ranges (lent model exon-starts exon-ends seg-phases seg-exons seg-starts seg-ends selenocysteine) (record { chromosome = window-chromosome; first = window-first; bytes = window })) 20 (callsOf chromosomes positions refs alts) out₀ i)
 
 abbrev μ-loop : tie.MeasureT-loop
-μ-loop ranges window-chromosome window-first window chromosomes positions refs alts model exon-starts exon-ends seg-phases seg-exons seg-starts seg-ends selenocysteine scalars cumulative-exons cumulative-cds selenocysteine-codons out₀ i₀ out i =
+μ-loop ranges letters window-chromosome window-first window chromosomes positions refs alts model exon-starts exon-ends seg-phases seg-exons seg-starts seg-ends selenocysteine scalars cumulative-exons cumulative-cds selenocysteine-codons out₀ i₀ out i =
     length positions - i
 
 abbrev Start : Type 0
@@ -52,13 +47,13 @@ abbrev calls : Start → List Call
 calls b = callsOf (now (b .args .chromosomes)) (now (b .args .positions)) (now (b .args .refs)) (now (b .args .alts))
 
 even : (b : Start) → Even (now (b .args .chromosomes)) (now (b .args .positions)) (now (b .args .refs)) (now (b .args .alts))
-even b = fit-even (now (b .args .chromosomes)) (now (b .args .positions)) (now (b .args .refs)) (now (b .args .alts)) (now (b .args .out)) (b .pre .1 .1)
+even b = fit-even (now (b .args .chromosomes)) (now (b .args .positions)) (now (b .args .refs)) (now (b .args .alts)) (now (b .args .out)) (b .pre .1 .1 .0)
 
 count : (b : Start) → length (calls b) ≡ length (now (b .args .positions))
 count b = calls-length (now (b .args .chromosomes)) (now (b .args .positions)) (now (b .args .refs)) (now (b .args .alts)) (even b)
 
 room : (b : Start) → length (now (b .args .out)) ≡ 20 * length (calls b)
-room b = rw (count b) (fit-room (now (b .args .chromosomes)) (now (b .args .positions)) (now (b .args .refs)) (now (b .args .alts)) (now (b .args .out)) (b .pre .1 .1))
+room b = rw (count b) (fit-room (now (b .args .chromosomes)) (now (b .args .positions)) (now (b .args .refs)) (now (b .args .alts)) (now (b .args .out)) (b .pre .1 .1 .0))
 
 -- the buffer while the first i calls are answered
 abbrev at : Start → ℕ → List ℤ
@@ -77,13 +72,13 @@ more b i l =
     ∙ filled-more (words b) 20 (length-20 b) (calls b) (now (b .args .out)) (room b) i (snv 0 0 0 0) (rw (count b) l)
 
 loop-holds : tie.Need-loop-holds Inv-loop μ-loop
-loop-holds c = let b = c .before .before .before .before .before .before .before .before .before .before .before .before .before .before in (omega arith, filled-none (words b) 20 (length-20 b) (calls b) (now (b .args .out)) (room b))
+loop-holds c = let b = c .before .before .before .before .before .before .before .before .before .before .before .before .before .before .before in (omega arith, filled-none (words b) 20 (length-20 b) (calls b) (now (b .args .out)) (room b))
 
 mul-t25 : tie.Need-mul-t25 Inv-loop μ-loop
-mul-t25 c = let e = even (c .before .before .before .before .before .before .before .before .before .before .before .before .before .before .before .before) .chromosomes in record { fits = omega arith }
+mul-t25 c = let e = even (c .before .before .before .before .before .before .before .before .before .before .before .before .before .before .before .before .before) .chromosomes in record { fits = omega arith }
 
 shared-slice-read-t28 : tie.Need-shared-slice-read-t28 Inv-loop μ-loop
-shared-slice-read-t28 c = let e = even (c .before .before .before .before .before .before .before .before .before .before .before .before .before .before .before .before .before) .chromosomes in omega arith
+shared-slice-read-t28 c = let e = even (c .before .before .before .before .before .before .before .before .before .before .before .before .before .before .before .before .before .before) .chromosomes in omega arith
 
 mul-t29 : tie.Need-mul-t29 Inv-loop μ-loop
 mul-t29 c = record { fits = omega arith }
@@ -92,22 +87,30 @@ shared-slice-read-t31 : tie.Need-shared-slice-read-t31 Inv-loop μ-loop
 shared-slice-read-t31 c = omega arith
 
 shared-slice-read-t33 : tie.Need-shared-slice-read-t33 Inv-loop μ-loop
-shared-slice-read-t33 c = let e = even (c .before .before .before .before .before .before .before .before .before .before .before .before .before .before .before .before .before .before .before) in omega arith
+shared-slice-read-t33 c = let e = even (c .before .before .before .before .before .before .before .before .before .before .before .before .before .before .before .before .before .before .before .before) in omega arith
 
 shared-slice-read-t35 : tie.Need-shared-slice-read-t35 Inv-loop μ-loop
-shared-slice-read-t35 c = let e = even (c .before .before .before .before .before .before .before .before .before .before .before .before .before .before .before .before .before .before .before .before) in omega arith
+shared-slice-read-t35 c = let e = even (c .before .before .before .before .before .before .before .before .before .before .before .before .before .before .before .before .before .before .before .before .before) in omega arith
 
-annotate-admitted-requires : tie.Need-annotate-admitted-requires Inv-loop μ-loop
-annotate-admitted-requires c κs = c .before .before .before .before .before .before .before .before .before .before .before .before .before .before .before .before .before .before .before .before .pre .0
+mul-put-snv : tie.Need-mul-put-snv Inv-loop μ-loop
+mul-put-snv c =
+    let b = c .before .before .before .before .before .before .before .before .before .before .before .before .before .before .before .before .before .before .before .before .before .before in
+    let e = room b in
+    let k = count b in
+    let g = b .good .1 .1 .1 .1 .1 .1 .1 .1 .1 .1 .1 .1 .1 .1 .1 .1 .1 .1 .1 .1 .1 .0 in
+    record { fits = omega arith }
 
-mul-put-called : tie.Need-mul-put-called Inv-loop μ-loop
-mul-put-called c = let e = room (c .before .before .before .before .before .before .before .before .before .before .before .before .before .before .before .before .before .before .before .before .before .before) in let k = count (c .before .before .before .before .before .before .before .before .before .before .before .before .before .before .before .before .before .before .before .before .before .before) in let g = c .before .before .before .before .before .before .before .before .before .before .before .before .before .before .before .before .before .before .before .before .before .before .good .1 .1 .1 .1 .1 .1 .1 .1 .1 .1 .1 .1 .1 .1 .1 .1 .1 .1 .1 .1 .0 in record { fits = omega arith }
-
-put-called-requires : tie.Need-put-called-requires Inv-loop μ-loop
-put-called-requires c κs = tt
+put-snv-requires : tie.Need-put-snv-requires Inv-loop μ-loop
+put-snv-requires c κs =
+    let b = c .before .before .before .before .before .before .before .before .before .before .before .before .before .before .before .before .before .before .before .before .before .before in
+    let l = c .before .before .before .before .before .before .loop in
+    let k = ap length (l .inv .1) ∙ long b (l .i) (l .inv .0) in
+    let e = room b in
+    let m = count b in
+    (b .pre .0, (b .pre .1 .1 .1, (b .pre .1 .0, omega arith)))
 
 add-i : tie.Need-add-i Inv-loop μ-loop
-add-i c = let g = c .before .before .before .before .before .before .before .before .before .before .before .before .before .before .before .before .before .before .before .before .before .before .before .before .good .1 .1 .1 .1 .1 .0 in record { fits = omega arith }
+add-i c = let g = c .before .before .before .before .before .before .before .before .before .before .before .before .before .before .before .before .before .before .before .before .before .before .before .before .good .1 .1 .1 .1 .1 .1 .0 in record { fits = omega arith }
 
 loop-less : tie.Need-loop-less Inv-loop μ-loop
 loop-less c = omega arith
@@ -115,25 +118,19 @@ loop-less c = omega arith
 loop-again : tie.Need-loop-again Inv-loop μ-loop
 loop-again c =
     let b = c .before .before .before .before .before .before .before .before .before .before .before .before .before .before .before .before .before .before .before .before .before .before .before .before in
-    let l = c .before .before .before .before .before .before .before .before .before .loop in
-    let k = ap length (l .inv .1) ∙ long b (l .i) (l .inv .0) in
-    let e = room b in
-    let m = count b in
-    let n : NearCalled (c .before .before .before .annotate-admitted .result) = rw (c .before .before .before .annotate-admitted .ensures) (near-called (b .args .ranges) (transcript b) (window b) (asked b (l .i)) (b .pre .1 .0)) in (
+    let l = c .before .before .before .before .before .before .before .before .loop in (
       omega arith,
-      c .before .put-called .ensures
-          ∙ called-fits (l .out) (20 * l .i) (c .before .before .before .annotate-admitted .result) (omega arith) n
-          ∙ ap (λ (o : List ℤ). sets o (20 * l .i) (calledWords (c .before .before .before .annotate-admitted .result))) (l .inv .1)
-          ∙ ap (λ (x : Called). sets (at b (l .i)) (20 * l .i) (calledWords x)) (c .before .before .before .annotate-admitted .ensures)
+      c .before .put-snv .ensures
+          ∙ ap (λ (o : List ℤ). sets o (20 * l .i) (words b (asked b (l .i)))) (l .inv .1)
           ∙ more b (l .i) (omega arith),
     )
 
 same-length : tie.Need-same-length Inv-loop μ-loop
-same-length c = let b = c .before .before .before .before .before .before .before .before .before .before .before .before .before .before .before .before in let l = c .before .loop in ap length (l .inv .1) ∙ long b (l .i) (l .inv .0)
+same-length c = let b = c .before .before .before .before .before .before .before .before .before .before .before .before .before .before .before .before .before in let l = c .before .loop in ap length (l .inv .1) ∙ long b (l .i) (l .inv .0)
 
 returns : tie.Need-returns Inv-loop μ-loop
 returns c =
-    let b = c .before .before .before .before .before .before .before .before .before .before .before .before .before .before .before .before in
+    let b = c .before .before .before .before .before .before .before .before .before .before .before .before .before .before .before .before .before in
     let l = c .before .loop in
     let n = count b in
     l .inv .1 ∙ filled-all (words b) 20 (length-20 b) (calls b) (now (b .args .out)) (room b) (l .i) (omega arith)
@@ -151,9 +148,8 @@ put-calls-spec =
     shared-slice-read-t31
     shared-slice-read-t33
     shared-slice-read-t35
-    annotate-admitted-requires
-    mul-put-called
-    put-called-requires
+    mul-put-snv
+    put-snv-requires
     add-i
     loop-less
     loop-again
