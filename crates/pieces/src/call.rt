@@ -2,6 +2,7 @@
 use consequence::Call;
 use consequence::Called;
 use consequence::annotate_summed;
+use consequence::call_letters;
 use deck::part::base_part;
 use deck::part::exon_part;
 use deck::part::segment_exons;
@@ -13,6 +14,7 @@ use footprint::source_ranges;
 ghost use mathlib.Core.Path.{_≡_};
 ghost use Prim.Native.Nat.{_<_};
 ghost use lib.ListN.{getD, drop};
+ghost use Rattle.codon.specs.code.Letters.{BothLetters};
 ghost use Rattle.consequence.specs.Window.{windowWasGiven};
 ghost use Rattle.listing.specs.Entries.{listedCall};
 ghost use Rattle.consequence.specs.code.Prepared.{Summed};
@@ -70,6 +72,7 @@ fn sums_from(sums: &[u32; 4096], row: usize) -> &[u32]
 
 // The answer to a call on the admitted transcript at row k.
 pub(crate) fn call_indexed(
+    both: &[u8; 1536],
     window_chromosome: u16,
     window_first: u64,
     window: &[u8],
@@ -87,18 +90,21 @@ pub(crate) fn call_indexed(
     requires { ⌜ InOrder k rows ⌝ }
     requires { let t = transcriptGiven marks ids numbers starts ends k rows in
         ⌜ Summed t (drop k (now sums)) (drop (cdsRow k rows) (now sums)) short ⌝ }
+    requires { ⌜ BothLetters (now both) ⌝ }
     ensures { λ r.
         let t = transcriptWasGiven marks ids numbers starts ends k rows in
         let w = windowWasGiven «window_chromosome» «window_first» window in
         ⌜ r ≡ listedCall t w call ⌝ }
 {
+    let model = model_in(marks, ids, numbers, starts, ends, k, rows);
     annotate_summed(
         source_ranges(),
+        call_letters(both, model.chromosome),
         window_chromosome,
         window_first,
         window,
         call,
-        model_in(marks, ids, numbers, starts, ends, k, rows),
+        model,
         exon_part(starts, k, rows),
         exon_part(ends, k, rows),
         segment_phases(marks, rows),

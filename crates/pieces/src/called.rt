@@ -10,6 +10,7 @@ use listing::Rest;
 ghost use mathlib.Core.Path.{_≡_};
 ghost use Prim.Native.Nat.{_<_};
 ghost use lib.ListN.{length, getD, drop};
+ghost use Rattle.codon.specs.code.Letters.{BothLetters};
 ghost use Rattle.consequence.specs.Window.{windowWasGiven};
 ghost use Rattle.deck.specs.code.Table.{tableGiven, tableWasGiven, transcriptAt, tableTranscripts};
 ghost use Rattle.lines.specs.Line.{writeAnswer, writtenTo};
@@ -21,6 +22,7 @@ ghost use Rattle.pieces.specs.code.Filling.{filledAs};
 
 // The line of a call for one of the transcripts.
 fn write_entry(
+    both: &[u8; 1536],
     window_chromosome: u16,
     window_first: u64,
     window: &[u8],
@@ -46,7 +48,8 @@ fn write_entry(
     requires { let d = tableGiven kinds marks ids numbers starts ends in
         ⌜ AllAdmitted d ⌝
         ∗ ⌜ indexGiven count rows short exons bounds segments bases sums ≡ tableIndex d ⌝
-        ∗ ⌜ entry < count ⌝ }
+        ∗ ⌜ entry < count ⌝
+        ∗ ⌜ BothLetters (now both) ⌝ }
     ensures { λ r.
         let d = tableWasGiven kinds marks ids numbers starts ends in
         let w = windowWasGiven «window_chromosome» «window_first» window in
@@ -55,6 +58,7 @@ fn write_entry(
 {
     let row = rows[entry] as usize;
     let called = call_indexed(
+        both,
         window_chromosome,
         window_first,
         window,
@@ -74,6 +78,7 @@ fn write_entry(
 
 // The lines of a call for the transcripts from the cursor on.
 pub(crate) fn fill_called(
+    both: &[u8; 1536],
     window_chromosome: u16,
     window_first: u64,
     window: &[u8],
@@ -98,7 +103,8 @@ pub(crate) fn fill_called(
 ) -> Filled
     requires { let d = tableGiven kinds marks ids numbers starts ends in
         ⌜ AllAdmitted d ⌝
-        ∗ ⌜ indexGiven count rows short exons bounds segments bases sums ≡ tableIndex d ⌝ }
+        ∗ ⌜ indexGiven count rows short exons bounds segments bases sums ≡ tableIndex d ⌝
+        ∗ ⌜ BothLetters (now both) ⌝ }
     ensures { λ r.
         let ts = tableTranscripts (tableWasGiven kinds marks ids numbers starts ends) in
         let w = windowWasGiven «window_chromosome» «window_first» window in
@@ -111,6 +117,7 @@ pub(crate) fn fill_called(
     let mut filled = 0;
     while entry < count {
         let written = write_entry(
+            both,
             window_chromosome,
             window_first,
             window,

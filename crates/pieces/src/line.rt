@@ -1,6 +1,7 @@
 // The lines of the calls from a cursor on, put into a lent buffer.
 use crate::fill::Filled;
 use crate::parsed::fill_parsed;
+use codon::altered_letters;
 use common::little::u16_at;
 use common::little::u64_at;
 use listing::Cursor;
@@ -27,7 +28,7 @@ fn bases_of(window: &[u8]) -> &[u8]
     &window[10..]
 }
 
-// The lines of the calls from the cursor on.
+// The lines of the calls from the cursor on. The letters of both genetic codes are laid out here, once for a piece.
 pub(crate) fn fill_lines(
     window: &[u8],
     calls: &[u8],
@@ -57,6 +58,7 @@ pub(crate) fn fill_lines(
         let p = pack (length (now out.entry)) (stepsAt ts (windowOf (now window.entry)) (now calls.entry) cursor) in
         ⌜ (r ≡ filledAs p) × (now out.exit ≡ pieceTo (now out.entry) p) ⌝ }
 {
+    let both = altered_letters();
     let chromosome = u16_at(window, 0);
     let first = u64_at(window, 2);
     let window_bases = bases_of(window);
@@ -67,6 +69,7 @@ pub(crate) fn fill_lines(
     while at < calls.len() {
         let to = line_end(calls, at);
         let put = fill_parsed(
+            &both,
             chromosome,
             first,
             window_bases,

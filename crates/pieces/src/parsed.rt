@@ -6,6 +6,7 @@ use listing::Cursor;
 use listing::ParsedCall;
 ghost use mathlib.Core.Path.{_≡_};
 ghost use lib.ListN.{length, drop};
+ghost use Rattle.codon.specs.code.Letters.{BothLetters};
 ghost use Rattle.consequence.specs.Window.{windowWasGiven};
 ghost use Rattle.deck.specs.code.Table.{tableGiven, tableWasGiven, tableTranscripts};
 ghost use Rattle.listing.specs.Entries.{callEntries};
@@ -15,6 +16,7 @@ ghost use Rattle.pieces.specs.code.Filling.{filledAs};
 
 // The lines of a parsed line of the calls from the cursor on.
 pub(crate) fn fill_parsed(
+    both: &[u8; 1536],
     window_chromosome: u16,
     window_first: u64,
     window: &[u8],
@@ -39,7 +41,8 @@ pub(crate) fn fill_parsed(
 ) -> Filled
     requires { let d = tableGiven kinds marks ids numbers starts ends in
         ⌜ AllAdmitted d ⌝
-        ∗ ⌜ indexGiven count rows short exons bounds segments bases sums ≡ tableIndex d ⌝ }
+        ∗ ⌜ indexGiven count rows short exons bounds segments bases sums ≡ tableIndex d ⌝
+        ∗ ⌜ BothLetters (now both) ⌝ }
     ensures { λ r.
         let ts = tableTranscripts (tableWasGiven kinds marks ids numbers starts ends) in
         let w = windowWasGiven «window_chromosome» «window_first» window in
@@ -49,6 +52,7 @@ pub(crate) fn fill_parsed(
 {
     match parsed {
         ParsedCall::Read(call) => fill_called(
+            both,
             window_chromosome,
             window_first,
             window,

@@ -25,11 +25,11 @@ abbrev steps : DeckTable → Window → ℕ → Call → ℕ → ℕ → List St
 steps t w number q at k = callSteps at k (drop k (callEntries (tableTranscripts t) w number (Read q)))
 
 abbrev Inv-loop : tie.InvT-loop
-Inv-loop window-chromosome window-first window kinds marks ids numbers starts ends count rows short exons bounds segments bases sums call number out₀ at entry₀ filled₀ out entry filled =
+Inv-loop both window-chromosome window-first window kinds marks ids numbers starts ends count rows short exons bounds segments bases sums call number out₀ at entry₀ filled₀ out entry filled =
     Filling out₀ out filled (steps (record { kinds = kinds; marks = marks; ids = ids; numbers = numbers; starts = starts; ends = ends }) (record { chromosome = window-chromosome; first = window-first; bytes = window }) number call at entry) (pack (length out₀) (steps (record { kinds = kinds; marks = marks; ids = ids; numbers = numbers; starts = starts; ends = ends }) (record { chromosome = window-chromosome; first = window-first; bytes = window }) number call at entry₀))
 
 abbrev μ-loop : tie.MeasureT-loop
-μ-loop window-chromosome window-first window kinds marks ids numbers starts ends count rows short exons bounds segments bases sums call number out₀ at entry₀ filled₀ out entry filled =
+μ-loop both window-chromosome window-first window kinds marks ids numbers starts ends count rows short exons bounds segments bases sums call number out₀ at entry₀ filled₀ out entry filled =
     count - entry
 
 abbrev table : tie.Start Inv-loop μ-loop → DeckTable
@@ -70,7 +70,7 @@ part-write-entry-end : tie.Need-part-write-entry-end Inv-loop μ-loop
 part-write-entry-end c = omega arith
 
 write-entry-requires : tie.Need-write-entry-requires Inv-loop μ-loop
-write-entry-requires c κs = let b = c .before .before .before .before .before in (b .pre .0, (b .pre .1, omega arith))
+write-entry-requires c κs = let b = c .before .before .before .before .before in (b .pre .0, (b .pre .1 .0, (omega arith, b .pre .1 .1)))
 
 enum-known-written : tie.Need-enum-known-written Inv-loop μ-loop
 enum-known-written c = search needs
@@ -82,22 +82,22 @@ same-length : tie.Need-same-length Inv-loop μ-loop
 same-length c =
     let l = c .before .before .before .before .before .before .before .loop in
     let e = c .before .before .before .before .write-entry in
-    same-len-mid (l .filled) (length (l .out) - l .filled) (l .out) (e .last .1 .1 .1 .1 .1 .1 .1 .1 .1 .1 .1 .1 .1 .1 .1 .1 .1 .1 .1 .1 .0) (e .kept .1 .1 .1 .1 .1 .1 .1 .1 .1 .1 .1 .1 .1 .1 .1 .1 .1 .1 .1 .1 .0) ∙ filling-length (l .inv)
+    same-len-mid (l .filled) (length (l .out) - l .filled) (l .out) (e .last .1 .1 .1 .1 .1 .1 .1 .1 .1 .1 .1 .1 .1 .1 .1 .1 .1 .1 .1 .1 .1 .0) (e .kept .1 .1 .1 .1 .1 .1 .1 .1 .1 .1 .1 .1 .1 .1 .1 .1 .1 .1 .1 .1 .1 .0) ∙ filling-length (l .inv)
 
 returns : tie.Need-returns Inv-loop μ-loop
 returns c =
     let l = c .before .before .before .before .before .before .before .loop in
     let e = c .before .before .before .before .write-entry in
-    entry-left (table (c .before .before .before .before .before .before .before .before .before .before)) (index (c .before .before .before .before .before .before .before .before .before .before)) (c .before .before .before .before .before .before .before .before .before .before .pre .1) (window (c .before .before .before .before .before .before .before .before .before .before)) (c .before .before .before .before .before .before .before .before .before .before .args .number) (c .before .before .before .before .before .before .before .before .before .before .args .call) (c .before .before .before .before .before .before .before .before .before .before .args .cursor .at) (l .entry) (omega arith) (l .inv) (e .ensures .0) (e .ensures .1) (c .enum-told .given .1)
+    entry-left (table (c .before .before .before .before .before .before .before .before .before .before)) (index (c .before .before .before .before .before .before .before .before .before .before)) (c .before .before .before .before .before .before .before .before .before .before .pre .1 .0) (window (c .before .before .before .before .before .before .before .before .before .before)) (c .before .before .before .before .before .before .before .before .before .before .args .number) (c .before .before .before .before .before .before .before .before .before .before .args .call) (c .before .before .before .before .before .before .before .before .before .before .args .cursor .at) (l .entry) (omega arith) (l .inv) (e .ensures .0) (e .ensures .1) (c .enum-told .given .1)
 
 add-filled : tie.Need-add-filled Inv-loop μ-loop
 add-filled c =
     let l = c .before .before .before .before .before .before .before .before .loop in
     let e = c .before .before .before .before .before .write-entry in
-    let f = entry-put (table (c .before .before .before .before .before .before .before .before .before .before .before)) (index (c .before .before .before .before .before .before .before .before .before .before .before)) (c .before .before .before .before .before .before .before .before .before .before .before .pre .1) (window (c .before .before .before .before .before .before .before .before .before .before .before)) (c .before .before .before .before .before .before .before .before .before .before .before .args .number) (c .before .before .before .before .before .before .before .before .before .before .before .args .call) (c .before .before .before .before .before .before .before .before .before .before .before .args .cursor .at) (l .entry) (omega arith) (l .inv) (e .ensures .0) (e .ensures .1) (c .before .written .given .1) in
+    let f = entry-put (table (c .before .before .before .before .before .before .before .before .before .before .before)) (index (c .before .before .before .before .before .before .before .before .before .before .before)) (c .before .before .before .before .before .before .before .before .before .before .before .pre .1 .0) (window (c .before .before .before .before .before .before .before .before .before .before .before)) (c .before .before .before .before .before .before .before .before .before .before .before .args .number) (c .before .before .before .before .before .before .before .before .before .before .before .args .call) (c .before .before .before .before .before .before .before .before .before .before .before .args .cursor .at) (l .entry) (omega arith) (l .inv) (e .ensures .0) (e .ensures .1) (c .before .written .given .1) in
     let g = filling-low f in
-    let h = same-len-mid (l .filled) (length (l .out) - l .filled) (l .out) (e .last .1 .1 .1 .1 .1 .1 .1 .1 .1 .1 .1 .1 .1 .1 .1 .1 .1 .1 .1 .1 .0) (e .kept .1 .1 .1 .1 .1 .1 .1 .1 .1 .1 .1 .1 .1 .1 .1 .1 .1 .1 .1 .1 .0) in
-    let k = c .before .before .before .before .before .before .before .before .before .before .before .good .1 .1 .1 .1 .1 .1 .1 .1 .1 .1 .1 .1 .1 .1 .1 .1 .1 .1 .1 .1 .0 in
+    let h = same-len-mid (l .filled) (length (l .out) - l .filled) (l .out) (e .last .1 .1 .1 .1 .1 .1 .1 .1 .1 .1 .1 .1 .1 .1 .1 .1 .1 .1 .1 .1 .1 .0) (e .kept .1 .1 .1 .1 .1 .1 .1 .1 .1 .1 .1 .1 .1 .1 .1 .1 .1 .1 .1 .1 .1 .0) in
+    let k = c .before .before .before .before .before .before .before .before .before .before .before .good .1 .1 .1 .1 .1 .1 .1 .1 .1 .1 .1 .1 .1 .1 .1 .1 .1 .1 .1 .1 .1 .0 in
     let j = filling-length (l .inv) in
     omega arith
 
@@ -111,7 +111,7 @@ loop-again : tie.Need-loop-again Inv-loop μ-loop
 loop-again c =
     let l = c .before .before .before .before .before .before .before .before .loop in
     let e = c .before .before .before .before .before .write-entry in
-    entry-put (table (c .before .before .before .before .before .before .before .before .before .before .before)) (index (c .before .before .before .before .before .before .before .before .before .before .before)) (c .before .before .before .before .before .before .before .before .before .before .before .pre .1) (window (c .before .before .before .before .before .before .before .before .before .before .before)) (c .before .before .before .before .before .before .before .before .before .before .before .args .number) (c .before .before .before .before .before .before .before .before .before .before .before .args .call) (c .before .before .before .before .before .before .before .before .before .before .before .args .cursor .at) (l .entry) (omega arith) (l .inv) (e .ensures .0) (e .ensures .1) (c .before .written .given .1)
+    entry-put (table (c .before .before .before .before .before .before .before .before .before .before .before)) (index (c .before .before .before .before .before .before .before .before .before .before .before)) (c .before .before .before .before .before .before .before .before .before .before .before .pre .1 .0) (window (c .before .before .before .before .before .before .before .before .before .before .before)) (c .before .before .before .before .before .before .before .before .before .before .before .args .number) (c .before .before .before .before .before .before .before .before .before .before .before .args .call) (c .before .before .before .before .before .before .before .before .before .before .before .args .cursor .at) (l .entry) (omega arith) (l .inv) (e .ensures .0) (e .ensures .1) (c .before .written .given .1)
 
 same-length-2 : tie.Need-same-length-2 Inv-loop μ-loop
 same-length-2 c = filling-length (c .before .loop .inv)
@@ -119,7 +119,7 @@ same-length-2 c = filling-length (c .before .loop .inv)
 returns-2 : tie.Need-returns-2 Inv-loop μ-loop
 returns-2 c =
     let l = c .before .loop in
-    filling-end (l .inv) (steps-end (table (c .before .before .before .before)) (index (c .before .before .before .before)) (c .before .before .before .before .pre .1) (window (c .before .before .before .before)) (c .before .before .before .before .args .number) (c .before .before .before .before .args .call) (c .before .before .before .before .args .cursor .at) (l .entry) (omega arith))
+    filling-end (l .inv) (steps-end (table (c .before .before .before .before)) (index (c .before .before .before .before)) (c .before .before .before .before .pre .1 .0) (window (c .before .before .before .before)) (c .before .before .before .before .args .number) (c .before .before .before .before .args .call) (c .before .before .before .before .args .cursor .at) (l .entry) (omega arith))
 
 pub fill-called-spec : {M : Type 1} → statement M
 fill-called-spec =

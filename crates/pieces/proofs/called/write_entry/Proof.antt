@@ -39,10 +39,10 @@ window b = record { chromosome = b .args .window-chromosome; first = b .args .wi
 
 -- the transcript's place and its row lie in the columns
 low : (b : tie.Start) → b .args .entry < 4096
-low b = let h = count-low (table b) (index b) (b .pre .1 .0) in let l = b .pre .1 .1 in omega arith
+low b = let h = count-low (table b) (index b) (b .pre .1 .0) in let l = b .pre .1 .1 .0 in omega arith
 
 below : (b : tie.Start) → getD (now (b .args .rows)) (b .args .entry) 0 < 4096
-below b = row-below (table b) (index b) (b .pre .1 .0) (b .pre .0) (b .args .entry) (b .pre .1 .1)
+below b = row-below (table b) (index b) (b .pre .1 .0) (b .pre .0) (b .args .entry) (b .pre .1 .1 .0)
 
 mul-row : tie.Need-mul-row
 mul-row c = let h = low (c .before .before) in omega arith
@@ -62,7 +62,8 @@ element-copy-out-call-indexed c = low (c .before .before .before .before)
 call-indexed-requires : tie.Need-call-indexed-requires
 call-indexed-requires c κs =
     let b = c .before .before .before .before .before in
-    ready (table b) (index b) (b .pre .1 .0) (b .pre .0) (b .args .entry) (b .pre .1 .1) (c .before .rows-in .ensures)
+    let r = ready (table b) (index b) (b .pre .1 .0) (b .pre .0) (b .args .entry) (b .pre .1 .1 .0) (c .before .rows-in .ensures) in
+    (r .0, (r .1, b .pre .1 .1 .1))
 
 mul-write-called : tie.Need-mul-write-called
 mul-write-called c = let h = below (c .before .before .before .before .before .before .before) in omega arith
@@ -80,7 +81,7 @@ returns : tie.Need-returns
 returns c =
     let b = c .before .before .before .before .before .before .before .before .before .before .before in
     let w = c .before .before .write-called in
-    let e = entry-line (table b) (index b) (b .pre .1 .0) (b .pre .0) (b .args .entry) (b .pre .1 .1) (c .before .before .before .before .before .before .before .rows-in .ensures) (window b) (b .args .number) (b .args .call) (c .before .before .before .before .before .call-indexed .ensures) in
+    let e = entry-line (table b) (index b) (b .pre .1 .0) (b .pre .0) (b .args .entry) (b .pre .1 .1 .0) (c .before .before .before .before .before .before .before .rows-in .ensures) (window b) (b .args .number) (b .args .call) (c .before .before .before .before .before .call-indexed .ensures) in
     rw (← e) (w .ensures)
 
 pub write-entry-spec : {M : Type 1} → statement M
