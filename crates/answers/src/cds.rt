@@ -83,6 +83,7 @@ pub(crate) fn put_cds_snv(
         first,
         bytes,
         alt_base,
+        segment as usize,
         offset,
         number,
         position,

@@ -89,8 +89,7 @@ pub(crate) fn put_snv(
         codon_number,
         codon_position,
         is_splice_region,
-    } = place
-    {
+    } = place {
         put_cds_snv(
             ranges,
             letters,

@@ -1,7 +1,9 @@
-// Holds the letters of the crate codon against NCBI's genetic code table 1, which is on standard input: a row for each column of
-// the lines AAs, Base1, Base2 and Base3 that https://www.ncbi.nlm.nih.gov/Taxonomy/Utils/wprintgc.cgi publishes, as three bases,
-// a space and the letter. Writes each codon, and each codon with one base replaced, that has another letter, and how many there are.
+// Holds the letters of the crate codon against NCBI's genetic code tables 1 and 2, which are on standard input one behind the other: 64
+// rows for each, one for each column of the lines AAs, Base1, Base2 and Base3 that
+// https://www.ncbi.nlm.nih.gov/Taxonomy/Utils/wprintgc.cgi publishes, as three bases, a space and the letter. Writes for each table the
+// codons, and the codons with one base replaced, that have another letter, and how many there are.
 use codon::Codon;
+use codon::GeneticCode;
 use codon::build_alt_codon;
 use codon::translate_altered_codon;
 use codon::translate_codon;
@@ -43,12 +45,12 @@ fn published_letter(rows: &[u8; 384], c: Codon) -> u8 {
 }
 
 // 1 where the codon of row i has another letter, which is then written, else 0.
-fn codon_differs(rows: &[u8; 384], i: usize) -> u64
+fn codon_differs(rows: &[u8; 384], code: GeneticCode, i: usize) -> u64
     requires { ⌜ i < 64 ⌝ }
     ensures { λ r. ⌜ r ≤ 1 ⌝ }
 {
     let c = codon_at(rows, i);
-    let letter = translate_codon(c);
+    let letter = translate_codon(code, c);
     let published = rows[i * 6 + 4];
     if letter == published {
         return 0;
@@ -68,12 +70,12 @@ fn codon_differs(rows: &[u8; 384], i: usize) -> u64
 }
 
 // 1 where the codon of row i with a base put in at a place has another letter, which is then written, else 0.
-fn altered_differs(rows: &[u8; 384], i: usize, place: u8, base: u8) -> u64
+fn altered_differs(rows: &[u8; 384], code: GeneticCode, i: usize, place: u8, base: u8) -> u64
     requires { ⌜ (i < 64) × (place < 3) ⌝ }
     ensures { λ r. ⌜ r ≤ 1 ⌝ }
 {
     let c = codon_at(rows, i);
-    let letter = translate_altered_codon(c, place, base);
+    let letter = translate_altered_codon(code, c, place, base);
     let published = published_letter(rows, build_alt_codon(c, place, base));
     if letter == published {
         return 0;
@@ -97,41 +99,52 @@ fn altered_differs(rows: &[u8; 384], i: usize, place: u8, base: u8) -> u64
 }
 
 // How many codons of the first n rows have another letter.
-fn codon_differences(rows: &[u8; 384], n: usize) -> u64
+fn codon_differences(rows: &[u8; 384], code: GeneticCode, n: usize) -> u64
     requires { ⌜ n ≤ 64 ⌝ }
 {
     let mut count: u64 = 0;
     let mut i = 0;
     while i < n {
-        count += codon_differs(rows, i);
+        count += codon_differs(rows, code, i);
         i += 1;
     }
     count
 }
 
 // How many of their codons with one base replaced, 12 for each, have another letter.
-fn altered_differences(rows: &[u8; 384], n: usize) -> u64
+fn altered_differences(rows: &[u8; 384], code: GeneticCode, n: usize) -> u64
     requires { ⌜ n ≤ 64 ⌝ }
 {
     let mut count: u64 = 0;
     let mut k = 0;
     while k < n * 12 {
-        count += altered_differs(rows, k / 12, (k / 4 % 3) as u8, BASES[k % 4]);
+        count += altered_differs(rows, code, k / 12, (k / 4 % 3) as u8, BASES[k % 4]);
         k += 1;
     }
     count
 }
 
-fn write_count(n: usize, what: &[u8], differ: u64) {
+fn write_count(table: u64, n: usize, what: &[u8], differ: u64) {
+    io::write_all(STDOUT_FILENO, b"table ");
+    io::print_decimal(STDOUT_FILENO, table);
+    io::write_all(STDOUT_FILENO, b": ");
     io::print_decimal(STDOUT_FILENO, n as u64);
     io::write_all(STDOUT_FILENO, what);
     io::print_decimal(STDOUT_FILENO, differ);
     io::write_all(STDOUT_FILENO, b" differ\n");
 }
 
-fn main() {
+// A code against the next 64 rows, those of the table of that number.
+fn check_table(table: u64, code: GeneticCode) {
     let mut rows = [0u8; 384];
     let n = io::read_full(0, &mut rows) / 6;
-    write_count(n, b" codons, ", codon_differences(&rows, n));
-    write_count(n * 12, b" altered codons, ", altered_differences(&rows, n));
+    let codons = codon_differences(&rows, code, n);
+    write_count(table, n, b" codons, ", codons);
+    let altered = altered_differences(&rows, code, n);
+    write_count(table, n * 12, b" altered codons, ", altered);
+}
+
+fn main() {
+    check_table(1, GeneticCode::Standard);
+    check_table(2, GeneticCode::VertebrateMitochondrial);
 }

@@ -34,6 +34,7 @@ pub enum CdsCodon {
 }
 
 // The codon of that number at a padded offset, with `alt_base` put in at that place in it, by the letters of a genetic code.
+// Segment `near` may hold the offset.
 pub fn read_cds_codon(
     letters: &[u8],
     scalars: IndexScalars,
@@ -46,6 +47,7 @@ pub fn read_cds_codon(
     first: u64,
     bytes: &[u8],
     alt_base: u8,
+    near: usize,
     offset: CdsOffset,
     number: u32,
     position: u8,
@@ -68,7 +70,17 @@ pub fn read_cds_codon(
         → columnsCalled t p place i offset number position mark r
         ≡ codingCalled table t p (codingByte strand «alt_base») place i offset number position mark (fetchCodon t base (offset .0))) ⌝ }
 {
-    let codon = fetch_ref_codon(scalars, strand, starts, ends, sums, first, bytes, offset.0);
+    let codon = fetch_ref_codon(
+        scalars,
+        strand,
+        starts,
+        ends,
+        sums,
+        first,
+        bytes,
+        near,
+        offset.0,
+    );
     let FetchedCodon::Bases(c) = codon else {
         return CdsCodon::OutsideWindow;
     };

@@ -25,6 +25,16 @@ ghost use Rattle.consequence.specs.Reading.{fetchCodon};
 ghost use Rattle.consequence.specs.code.AtPlace.{codingCalled};
 ghost use Rattle.consequence.specs.code.Segments.{Segments};
 
+// The segment of exon i, where `first` is the first coding exon.
+fn near_segment(i: u16, first: u16) -> usize
+    ensures { λ r. ⌜ r ≡ i - first ⌝ }
+{
+    if i < first {
+        return 0;
+    }
+    (i - first) as usize
+}
+
 // A base of exon i at that padded offset, of that codon and place in it, marked or not, with `alt_base` put in. Refusal 21 where the
 // codon is not all in the window.
 pub(crate) fn annotate_cds_snv(
@@ -82,6 +92,7 @@ pub(crate) fn annotate_cds_snv(
         first,
         bytes,
         alt_base,
+        near_segment(i, scalars.cds_start_exon_idx),
         offset,
         number,
         position,
@@ -92,6 +103,14 @@ pub(crate) fn annotate_cds_snv(
     let cdna = cdna_position(scalars.utr5_exonic_len, scalars.cds_start_pad, offset);
     let terms = with_mark(columns.terms, mark);
     Called::Answered(coding_result(
-        place, exons, i, offset, number, position, cdna, columns, terms,
+        place,
+        exons,
+        i,
+        offset,
+        number,
+        position,
+        cdna,
+        columns,
+        terms,
     ))
 }

@@ -2,7 +2,7 @@
 use super::FetchedBase;
 use super::FetchedCodon;
 use super::segment::next_segment;
-use super::segment::segment_of;
+use super::segment::segment_near;
 use super::window::coding_base_at;
 use codon::Codon;
 use locate::IndexScalars;
@@ -93,7 +93,8 @@ fn codon_of(len: u8, first: u8, second: u8, third: u8) -> FetchedCodon
     })
 }
 
-// The codon that holds padded offset k: its bases, unless one lies outside the window.
+// The codon that holds padded offset k: its bases, unless one lies outside the window. Segment `near` may hold k; if it does, no search
+// is needed.
 pub(crate) fn fetch_ref_codon(
     scalars: IndexScalars,
     strand: Strand,
@@ -102,6 +103,7 @@ pub(crate) fn fetch_ref_codon(
     sums: &[u32],
     first: u64,
     bytes: &[u8],
+    near: usize,
     k: u32,
 ) -> FetchedCodon
     requires { ⌜ Segments strand (now starts) (now ends) (now sums) (scalars .«cds_start_pad») ⌝ }
@@ -118,7 +120,7 @@ pub(crate) fn fetch_ref_codon(
     let pad = scalars.cds_start_pad;
     let len = codon_length(scalars.total_cds_length, k);
     let from = k - k % 3;
-    let i = segment_of(sums, scalars.segment_count, from);
+    let i = segment_near(sums, scalars.segment_count, near, from);
     let FetchedBase::Base(x) = cds_base(pad, strand, starts, ends, sums, i, first, bytes, from)
     else {
         return FetchedCodon::OutsideWindow;

@@ -24,6 +24,23 @@ pub(crate) fn segment_of(sums: &[u32], count: usize, k: u32) -> usize
     lo
 }
 
+// The same, looked for first where a base of the codon is, in segment `near`: mostly it is there.
+pub(crate) fn segment_near(sums: &[u32], count: usize, near: usize, k: u32) -> usize
+    requires { ⌜ (0 < count) × (count ≤ 512) × (count < length (now sums)) × (k < getD (now sums) count 0) ⌝ }
+    ensures { λ r. ⌜ Held (now sums.entry) count k r ⌝ }
+{
+    if count <= near {
+        return segment_of(sums, count, k);
+    }
+    if k < sums[near] {
+        return segment_of(sums, count, k);
+    }
+    if sums[near + 1] <= k {
+        return segment_of(sums, count, k);
+    }
+    near
+}
+
 // The segment of padded offset k, where segment i holds the offset before it: each segment has a base.
 pub(crate) fn next_segment(sums: &[u32], i: usize, k: u32) -> usize
     requires { ⌜ (i < 512) × (i + 1 < length (now sums)) ⌝ }

@@ -45,13 +45,7 @@ fn hits_acceptor(starts: &[u64], ends: &[u64], strand: Strand, n: usize, p: u64)
 }
 
 // The windows that p, an oriented base, hits. Without a short intron, `short`, there are none.
-pub fn spill_at(
-    short: bool,
-    starts: &[u64],
-    ends: &[u64],
-    strand: Strand,
-    p: u64,
-) -> SpliceSpill
+pub fn spill_at(short: bool, starts: &[u64], ends: &[u64], strand: Strand, p: u64) -> SpliceSpill
     requires { ⌜ Ready strand (now starts) (now ends) ⌝ }
     requires { ⌜ p ≤ top ⌝ }
     ensures { λ r. ⌜ ((t : Oriented)

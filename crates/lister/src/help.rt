@@ -104,7 +104,6 @@ A call is refused by\n\
 \x20 17  a position outside the window\n\
 \x20 18  ref differs from the window's byte\n\
 \x20 19  a position over 5000 bases outside the transcript\n\
-\x20 20  chromosome 25\n\
 \x20 21  a base of the codon outside the window\n\
 \x20 26  a line of another shape, or without its newline\n\
 \x20 27  calls over 65536 bytes; a window under 10 or over 65536 bytes\n\

@@ -1,6 +1,6 @@
 -- What the walk along ascending exons finds, from the number of exons that start at or before the base.
 -- Assumes nothing.
-use Prim.Native.Nat.{ℕ, zero, suc, _+_, _≤_, _<_}
+use Prim.Native.Nat.{ℕ, zero, suc, _+_, _-_, _/_, _≤_, _<_}
 use mathlib.Core.Path.{_≡_, refl, sym, _∙_, ap}
 use mathlib.Core.List.{List, [], _∷_}
 use native.Mathlib.Omega.{arith}
@@ -118,6 +118,25 @@ module _ (xs : List Interval) (p lo hi mid : ℕ) (o : Ascends 0 xs) (b : Bracke
   down f =
       let hl = b .hi-le in
       record { lo-le = l; hi-le = omega arith; before = b .before; after = λ k q t. (let r = starts-ascend xs 0 mid k o q t in omega arith) }
+
+-- none started from hi on: nor from a place behind it
+pub loosened : (xs : List Interval) (p lo hi to : ℕ) → Bracket xs p lo hi → hi ≤ to → to ≤ length xs → Bracket xs p lo to
+loosened xs p lo hi to b h l = record { lo-le = let n = b .lo-le in omega arith; hi-le = l; before = b .before; after = λ k q r. b .after k (omega arith) r }
+
+-- halving: so many are left, and the last of the first half is looked at
+module _ (xs : List Interval) (p lo left : ℕ) (o : Ascends 0 xs) (b : Bracket xs p lo (lo + left)) (some : 0 < left) where
+  abbrev middle : ℕ
+  middle = lo + (left - left / 2) - 1
+
+  pub second-half : getD xs middle nowhere .start ≤ p → Bracket xs p (middle + 1) (middle + 1 + (left - (left - left / 2)))
+  second-half f =
+      let e : lo + left ≡ middle + 1 + (left - (left - left / 2)) = omega arith in
+      rw e at (up xs p lo (lo + left) middle o b (omega arith) (omega arith) f)
+
+  pub first-half : p < getD xs middle nowhere .start → Bracket xs p lo (lo + (left - (left - left / 2)))
+  first-half f =
+      let h = b .hi-le in
+      loosened xs p lo middle (lo + (left - (left - left / 2))) (down xs p lo (lo + left) middle o b (omega arith) (omega arith) f) (omega arith) (omega arith)
 
 -- exons that are ready, at an index: what the code reads is what the list of intervals has there
 module _ (σ : Strand) (ss es : List ℕ) (ad : Ready σ ss es) where

@@ -11,22 +11,23 @@ ghost use Rattle.locate.specs.Find.{findExonOrIntron};
 ghost use Rattle.transcript.specs.code.Lent.{lentExons};
 ghost use Rattle.locate.specs.code.Search.{Ready, Started, exonOrIntron, FoundAt};
 
-// How many exons start at or before p, an oriented coordinate.
+// How many exons start at or before p, an oriented coordinate. What is left shrinks alike on both ways, so that a step is a conditional
+// move, not a jump that random bases make hard to predict.
 pub fn started(starts: &[u64], ends: &[u64], strand: Strand, p: u64) -> usize
     requires { ⌜ Ready strand (now starts) (now ends) ⌝ }
     ensures { λ r. ⌜ (r ≤ length (now starts.entry)) × Started (lentExons strand (now starts.entry) (now ends.entry)) p r ⌝ }
 {
     let mut lo: usize = 0;
-    let mut hi = starts.len();
-    while lo < hi {
-        let mid = lo + (hi - lo) / 2;
+    let mut left = starts.len();
+    while 0 < left {
+        let half = left - left / 2;
+        let mid = lo + half - 1;
         let s = starts[mid];
         let e = ends[mid];
         if start_of(strand, s, e) <= p {
             lo = mid + 1;
-        } else {
-            hi = mid;
         }
+        left -= half;
     }
     lo
 }

@@ -1,5 +1,6 @@
-// One pair of a shorter and a longer transcript, and the answers of both to the same calls, one below the other: numbers, totals and
-// cDNA positions move by what was added, the mark and its term are gained at the two ends, and all else stays.
+// A pair of a shorter and a longer transcript, and the answers of both to the same calls, one below the other: numbers, totals and
+// cDNA positions move by what was added, the mark and its term are gained at the two ends, and all else stays. The same of the pair on
+// chromosome 25, where ATA reads M, AGA is a stop and TGA is none.
 use consequence::Call;
 use consequence::Called;
 use consequence::annotate_snv;
@@ -11,87 +12,80 @@ use transcript::CdsBounds;
 use transcript::Strand;
 use transcript::TranscriptModel;
 
+// The chromosome of two transcripts and their ids.
+struct Pair {
+    chromosome: u16,
+    shorter: u32,
+    longer: u32,
+}
+
 // 90 bases from coordinate 100: all A save T at 111 and 167, G at 112 and 128.
 const WINDOW: [u8; 90] = *b"\
 AAAAAAAAAAATGAAAAAAAAAAAAAAAGAAAAAAAAAAAAAAAA\
 AAAAAAAAAAAAAAAAAAAAAATAAAAAAAAAAAAAAAAAAAAAA";
 
-// T1: exons [100,130) and [160,190), CDS [110,170), phases 0 and 1, start complete.
-fn shorter(call: Call) -> Called {
-    let model = TranscriptModel {
-        id: 7,
-        chromosome: 1,
+// A transcript on plus with CDS [110,170), start complete.
+fn model(id: u32, chromosome: u16, exon_count: u16, tx_start: u64, tx_end: u64) -> TranscriptModel {
+    TranscriptModel {
+        id,
+        chromosome,
         strand: Strand::Plus,
-        exon_count: 2,
-        tx_start: 100,
-        tx_end: 190,
+        exon_count,
+        tx_start,
+        tx_end,
         cds: CdsBounds::Both {
             cds_genomic_start: 110,
             cds_genomic_end: 170,
         },
         cds_start_complete: true,
-    };
+    }
+}
+
+// Its answer. The segments, of phases 0 and 1, lie in the exons of these indices.
+fn ask(
+    call: Call,
+    model: TranscriptModel,
+    exon_starts: &[u64],
+    exon_ends: &[u64],
+    exons: &[u16],
+) -> Called {
     let window = WINDOW;
-    let exon_starts = [100u64, 160];
-    let exon_ends = [130u64, 190];
     let phases = [0u8, 1];
-    let exons = [0u16, 1];
     let seg_starts = [110u64, 160];
     let seg_ends = [130u64, 170];
     let none = [0u64; 1];
     annotate_snv(
-        1,
+        model.chromosome,
         100,
         &window,
         call,
         model,
-        &exon_starts,
-        &exon_ends,
+        exon_starts,
+        exon_ends,
         &phases,
-        &exons,
+        exons,
         &seg_starts,
         &seg_ends,
         &none[..0],
     )
 }
 
+// Document 01's T1, on the call's chromosome: exons [100,130) and [160,190).
+fn shorter(id: u32, call: Call) -> Called {
+    let starts = [100u64, 160];
+    let ends = [130u64, 190];
+    let exons = [0u16, 1];
+    let model = model(id, call.chromosome, 2, 100, 190);
+    ask(call, model, &starts, &ends, &exons)
+}
+
 // The same with exons [50,80) and [215,230) added.
-fn longer(call: Call) -> Called {
-    let model = TranscriptModel {
-        id: 8,
-        chromosome: 1,
-        strand: Strand::Plus,
-        exon_count: 4,
-        tx_start: 50,
-        tx_end: 230,
-        cds: CdsBounds::Both {
-            cds_genomic_start: 110,
-            cds_genomic_end: 170,
-        },
-        cds_start_complete: true,
-    };
-    let window = WINDOW;
-    let exon_starts = [50u64, 100, 160, 215];
-    let exon_ends = [80u64, 130, 190, 230];
-    let phases = [0u8, 1];
+fn longer(id: u32, call: Call) -> Called {
+    let starts = [50u64, 100, 160, 215];
+    let ends = [80u64, 130, 190, 230];
     let exons = [1u16, 2];
-    let seg_starts = [110u64, 160];
-    let seg_ends = [130u64, 170];
-    let none = [0u64; 1];
-    annotate_snv(
-        1,
-        100,
-        &window,
-        call,
-        model,
-        &exon_starts,
-        &exon_ends,
-        &phases,
-        &exons,
-        &seg_starts,
-        &seg_ends,
-        &none[..0],
-    )
+    let model = model(id, call.chromosome, 4, 50, 230);
+    ask(call, model, &starts, &ends, &exons)
 }
 
 // How many bytes were written.
@@ -109,37 +103,51 @@ fn print(out: &[u8], n: usize) {
 }
 
 // The line of an answer.
-fn show(number: u64, id: u64, called: Called) {
+fn show(number: u64, id: u32, called: Called) {
     let mut out = [0u8; 256];
     match called {
         Called::Answered(a) => {
-            let w = write_answer(&mut out, number, id, a);
+            let w = write_answer(&mut out, number, id as u64, a);
             print(&out, length_of(w));
         }
         Called::Refused(n) => {
-            let w = write_refusal(&mut out, number, id, n as u64);
+            let w = write_refusal(&mut out, number, id as u64, n as u64);
             print(&out, length_of(w));
         }
     }
 }
 
 // The two answers to one call.
-fn compare(number: u64, position: u64, ref_base: u8, alt_base: u8) {
+fn compare(pair: Pair, number: u64, position: u64, ref_base: u8, alt_base: u8) {
     let call = Call {
-        chromosome: 1,
+        chromosome: pair.chromosome,
         position,
         ref_base,
         alt_base,
     };
-    show(number, 7, shorter(call));
-    show(number, 8, longer(call));
+    show(number, pair.shorter, shorter(pair.shorter, call));
+    show(number, pair.longer, longer(pair.longer, call));
 }
 
 fn main() {
-    compare(1, 101, b'A', b'C');
-    compare(2, 111, b'T', b'C');
-    compare(3, 129, b'A', b'C');
-    compare(4, 143, b'A', b'G');
-    compare(5, 189, b'A', b'G');
-    compare(6, 120, b'A', b'A');
+    let pair = Pair {
+        chromosome: 1,
+        shorter: 7,
+        longer: 8,
+    };
+    compare(pair, 1, 101, b'A', b'C');
+    compare(pair, 2, 111, b'T', b'C');
+    compare(pair, 3, 129, b'A', b'C');
+    compare(pair, 4, 143, b'A', b'G');
+    compare(pair, 5, 189, b'A', b'G');
+    compare(pair, 6, 120, b'A', b'A');
+    let mitochondrial = Pair {
+        chromosome: 25,
+        shorter: 27,
+        longer: 28,
+    };
+    compare(mitochondrial, 7, 112, b'G', b'A');
+    compare(mitochondrial, 8, 117, b'A', b'G');
+    compare(mitochondrial, 9, 168, b'A', b'G');
+    compare(mitochondrial, 10, 189, b'A', b'G');
 }

@@ -6,10 +6,10 @@ use Rattle.code_table.proofs.altered_differences.Statement.{statement}
 use Rattle.code_table.proofs.altered_differences.Tie as tie
 
 abbrev Inv-loop : tie.InvT-loop
-Inv-loop rows n count₀ k₀ count k = (k ≤ n * 12) × (count ≤ k)
+Inv-loop rows code n count₀ k₀ count k = (k ≤ n * 12) × (count ≤ k)
 
 abbrev μ-loop : tie.MeasureT-loop
-μ-loop rows n count₀ k₀ count k = n * 12 - k
+μ-loop rows code n count₀ k₀ count k = n * 12 - k
 
 loop-holds : tie.Need-loop-holds Inv-loop μ-loop
 loop-holds c = omega arith

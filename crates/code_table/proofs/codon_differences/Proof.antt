@@ -6,10 +6,10 @@ use Rattle.code_table.proofs.codon_differences.Statement.{statement}
 use Rattle.code_table.proofs.codon_differences.Tie as tie
 
 abbrev Inv-loop : tie.InvT-loop
-Inv-loop rows n count₀ i₀ count i = (i ≤ n) × (count ≤ i)
+Inv-loop rows code n count₀ i₀ count i = (i ≤ n) × (count ≤ i)
 
 abbrev μ-loop : tie.MeasureT-loop
-μ-loop rows n count₀ i₀ count i = n - i
+μ-loop rows code n count₀ i₀ count i = n - i
 
 loop-holds : tie.Need-loop-holds Inv-loop μ-loop
 loop-holds c = omega arith

@@ -77,7 +77,7 @@ returns-2 c =
     let unfinished = c .before .before .before .is-incomplete-terminal-codon .ensures ∙ ap (λ (n : ℕ). incompleteAt n (b .args .offset .0)) (sym (total-of b t hs)) in
     let held = c .before .before .holds-selenocysteine .ensures t (ap (λ (x : IndexScalars). x .«selenocysteine_count») hs) hu in
     let columns = c .read-codon .ensures table t (b .args .offset .0) (b .args .number) e start padded unfinished held
-        ∙ ap (λ (n : ℕ). readCodon table t (b .args .offset .0) (b .args .number) bases (buildAltCodon bases (b .args .position) n) (b .args .position)) (c .before .coding-byte .ensures) in
+    ∙ ap (λ (n : ℕ). readCodon table t (b .args .offset .0) (b .args .number) bases (buildAltCodon bases (b .args .position) n) (b .args .position)) (c .before .coding-byte .ensures) in
     ap (λ (x : Columns). Called.Answered (codonResult t p place (Region.Coding i (b .args .offset) (b .args .number) (b .args .position) mark) x)) columns
     ∙ ap (called b table t p place i mark) (sym (d .given .1) ∙ c .before .before .before .before .before .before .before .before .before .fetch-ref-codon .ensures t (pad-of b t hs) hg (total-of b t hs))
 

@@ -15,9 +15,12 @@ use Rattle.consequence.proofs.coding.annotate_cds_snv.Tie as tie
 abbrev called : tie.Start → Oriented → ℕ → CdsCodon → Called
 called b t p r = columnsCalled t p (b .args .place) (b .args .i) (b .args .offset) (b .args .number) (b .args .position) (b .args .mark) r
 
+near-segment-requires : tie.Need-near-segment-requires
+near-segment-requires c κs = search needs
+
 read-cds-codon-requires : tie.Need-read-cds-codon-requires
 read-cds-codon-requires c κs =
-    let b = c .before .before .before .before .before in
+    let b = c .before .before .before .before .before .before in
     (b .pre .0, (b .pre .1 .0, (b .pre .1 .1 .0, b .pre .1 .1 .1 .0)))
 
 enum-known-read : tie.Need-enum-known-read
@@ -28,23 +31,23 @@ enum-told c = search needs
 
 returns : tie.Need-returns
 returns c =
-    let b = c .before .before .before .before .before .before .before .before in
+    let b = c .before .before .before .before .before .before .before .before .before in
     λ table t p e he hs hc hg hu hd.
     ap (called b t p) (sym (c .enum-told .given .1))
     ∙ c .before .before .read-cds-codon .ensures table t e hs hc hg hu p (b .args .place) (b .args .i) (b .args .mark)
 
 cdna-position-requires : tie.Need-cdna-position-requires
-cdna-position-requires c κs = let h = c .before .before .before .before .before .before .before .before .before .pre .1 .1 .1 .1 in (h .2, h .3)
+cdna-position-requires c κs = let h = c .before .before .before .before .before .before .before .before .before .before .pre .1 .1 .1 .1 in (h .2, h .3)
 
 with-mark-requires : tie.Need-with-mark-requires
 with-mark-requires c κs = search needs
 
 coding-result-requires : tie.Need-coding-result-requires
-coding-result-requires c κs = let h = c .before .before .before .before .before .before .before .before .before .before .before .pre .1 .1 .1 .1 in (h .0, h .1)
+coding-result-requires c κs = let h = c .before .before .before .before .before .before .before .before .before .before .before .before .pre .1 .1 .1 .1 in (h .0, h .1)
 
 returns-2 : tie.Need-returns-2
 returns-2 c =
-    let b = c .before .before .before .before .before .before .before .before .before .before .before .before in
+    let b = c .before .before .before .before .before .before .before .before .before .before .before .before .before in
     let d = c .before .before .before .before .read in
     λ table t p e he hs hc hg hu hd.
     ap Called.Answered
@@ -57,6 +60,7 @@ pub annotate-cds-snv-spec : {M : Type 1} → statement M
 annotate-cds-snv-spec =
     tie.close
     (tie.spec
+    near-segment-requires
     read-cds-codon-requires
     enum-known-read
     enum-told

@@ -59,13 +59,13 @@ next : (b : tie.Start) (k i : ℕ) → HeldAt b k i → (m j : ℕ) → m ≡ k 
 next b = held-next (b .args .strand) (now (b .args .starts)) (now (b .args .ends)) (now (b .args .sums)) (b .args .scalars .«cds_start_pad») (b .pre .0)
 
 -- the segments that the search and the two steps find
-held : (c : tie.After-segment-of) → HeldAt (start (c .before)) (from (start (c .before))) (c .segment-of .result)
-held c = rw (start (c .before) .pre .1 .0) at (c .segment-of .ensures)
+held : (c : tie.After-segment-near) → HeldAt (start (c .before)) (from (start (c .before))) (c .segment-near .result)
+held c = rw (start (c .before) .pre .1 .0) at (c .segment-near .ensures)
 
 held-second : (c : tie.After-next-segment) → HeldAt (start (c .before .before .before .before .before .before .before)) (from (start (c .before .before .before .before .before .before .before)) + 1) (c .next-segment .result)
 held-second c =
     let b = start (c .before .before .before .before .before .before .before) in
-    next b (from b) (c .before .before .before .before .before .before .segment-of .result) (held (c .before .before .before .before .before .before)) (from b + 1) (c .next-segment .result) refl (within (c .before .before .before .before .before .before .before) 1 (omega arith)) (c .next-segment .ensures)
+    next b (from b) (c .before .before .before .before .before .before .segment-near .result) (held (c .before .before .before .before .before .before)) (from b + 1) (c .next-segment .result) refl (within (c .before .before .before .before .before .before .before) 1 (omega arith)) (c .next-segment .ensures)
 
 held-third : (c : tie.After-next-segment2) → HeldAt (start (c .before .before .before .before .before .before .before .before .before .before .before .before .before)) (from (start (c .before .before .before .before .before .before .before .before .before .before .before .before .before)) + 2) (c .next-segment2 .result)
 held-third c =
@@ -88,8 +88,8 @@ codon-length-requires c κs = search needs
 sub-from : tie.Need-sub-from
 sub-from c = search needs
 
-segment-of-requires : tie.Need-segment-of-requires
-segment-of-requires c κs =
+segment-near-requires : tie.Need-segment-near-requires
+segment-near-requires c κs =
     let b = start c in
     let r = b .pre .0 .ready in
     let n = b .pre .1 .0 in
@@ -211,7 +211,7 @@ fetch-ref-codon-spec =
     (tie.spec
     codon-length-requires
     sub-from
-    segment-of-requires
+    segment-near-requires
     cds-base-requires
     enum-known-x
     enum-told

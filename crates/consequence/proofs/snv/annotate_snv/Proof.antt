@@ -83,13 +83,15 @@ annotate-summed-requires : tie.Need-annotate-summed-requires
 annotate-summed-requires c κs =
     let b = c .before .before .before .before .before .before .before .before .before .before .before .before .before .before .before .before .before .before .before .before .before in
     let a = admitted (c .before .before .before .before .before .before .before .before .before .before) in
-    let s = c .before .before .before .before .before .before .sum-up in
-    (record {
-      admitted = a;
-      exons-are = on b exons-summed a (s .last .0) (s .ensures .0 .0);
-      segments-are = on b cds-summed a (s .last .1 .0) (s .ensures .0 .1);
-      short-is = c .before .before .before .before .before .before .before .before .before .has-frameshift-intron .ensures ∙ ap (λ (xs : List Interval). any isFrameshiftGap (gaps xs)) (sym (on b exons-are a));
-    }, c .before .before .call-letters .ensures)
+    let s = c .before .before .before .before .before .before .sum-up in (
+      record {
+        admitted = a;
+        exons-are = on b exons-summed a (s .last .0) (s .ensures .0 .0);
+        segments-are = on b cds-summed a (s .last .1 .0) (s .ensures .0 .1);
+        short-is = c .before .before .before .before .before .before .before .before .before .has-frameshift-intron .ensures ∙ ap (λ (xs : List Interval). any isFrameshiftGap (gaps xs)) (sym (on b exons-are a));
+      },
+      c .before .before .call-letters .ensures,
+    )
 
 returns-2 : tie.Need-returns-2
 returns-2 c = rw (c .before .before .before .before .before .before .source-ranges .ensures) at (c .annotate-summed .ensures)

@@ -33,14 +33,16 @@ selenocysteine-codons-requires c κs = let b = c .before .before .before .before
 
 annotate-admitted-requires : tie.Need-annotate-admitted-requires
 annotate-admitted-requires c κs =
-    let b = c .before .before .before .before .before .before .before .before .before .before .before .before .before .before .before in
-    (record {
-      admitted = b .pre .0 .admitted;
-      scalars-are = c .before .before .before .scalars-of .ensures;
-      exons-are = b .pre .0 .exons-are;
-      segments-are = b .pre .0 .segments-are;
-      codons-are = c .before .before .selenocysteine-codons .ensures ∙ on b codons (b .pre .0 .admitted) (now (b .args .cumulative-cds)) (b .pre .0 .segments-are);
-    }, b .pre .1)
+    let b = c .before .before .before .before .before .before .before .before .before .before .before .before .before .before .before in (
+      record {
+        admitted = b .pre .0 .admitted;
+        scalars-are = c .before .before .before .scalars-of .ensures;
+        exons-are = b .pre .0 .exons-are;
+        segments-are = b .pre .0 .segments-are;
+        codons-are = c .before .before .selenocysteine-codons .ensures ∙ on b codons (b .pre .0 .admitted) (now (b .args .cumulative-cds)) (b .pre .0 .segments-are);
+      },
+      b .pre .1,
+    )
 
 returns : tie.Need-returns
 returns c = search needs
