@@ -9,47 +9,27 @@ ghost use lib.ListN.{length};
 ghost use Rattle.transcript.specs.Bases.{firstStart};
 ghost use Rattle.locate.specs.Find.{findExonOrIntron};
 ghost use Rattle.transcript.specs.code.Lent.{lentExons};
-ghost use Rattle.locate.specs.code.Search.{Ready, Started, LastStart, exonOrIntron, FoundAt};
+ghost use Rattle.locate.specs.code.Search.{Ready, Started, exonOrIntron, FoundAt};
 
-// How many exons start at or before p, and the start of the last of them.
-pub(crate) struct LastStarted {
-    pub(crate) count: usize,
-    pub(crate) start: u64,
-}
-
-// The exons that start at or before p, an oriented coordinate. What is left shrinks alike on both ways and the start goes along, so that
-// a step is two conditional moves, not a jump that random bases make hard to predict.
-fn starting(starts: &[u64], ends: &[u64], strand: Strand, p: u64) -> LastStarted
-    requires { ⌜ Ready strand (now starts) (now ends) ⌝ }
-    ensures { λ r.
-        let xs = lentExons strand (now starts.entry) (now ends.entry) in
-        ⌜ ((r .count ≤ length (now starts.entry)) × Started xs p (r .count)) × LastStart xs (r .count) (r .start) ⌝ }
-{
-    let mut count: usize = 0;
-    let mut start: u64 = 0;
-    let mut left = starts.len();
-    while 0 < left {
-        let half = left - left / 2;
-        let mid = count + half - 1;
-        let s = starts[mid];
-        let e = ends[mid];
-        let at = start_of(strand, s, e);
-        if at <= p {
-            count = mid + 1;
-            start = at;
-        }
-        left -= half;
-    }
-    LastStarted { count, start }
-}
-
-// How many exons start at or before p.
+// How many exons start at or before p, an oriented coordinate. What is left shrinks alike on both ways, so that a step is a conditional
+// move, not a jump that random bases make hard to predict.
 pub fn started(starts: &[u64], ends: &[u64], strand: Strand, p: u64) -> usize
     requires { ⌜ Ready strand (now starts) (now ends) ⌝ }
     ensures { λ r. ⌜ (r ≤ length (now starts.entry)) × Started (lentExons strand (now starts.entry) (now ends.entry)) p r ⌝ }
 {
-    let found = starting(starts, ends, strand, p);
-    found.count
+    let mut lo: usize = 0;
+    let mut left = starts.len();
+    while 0 < left {
+        let half = left - left / 2;
+        let mid = lo + half - 1;
+        let s = starts[mid];
+        let e = ends[mid];
+        if start_of(strand, s, e) <= p {
+            lo = mid + 1;
+        }
+        left -= half;
+    }
+    lo
 }
 
 // The exon or intron that holds p, an oriented coordinate at or after the first start, with its edges.
@@ -65,14 +45,13 @@ pub(crate) fn find_exon_or_intron(
         let xs = lentExons strand (now starts.entry) (now ends.entry) in
         ⌜ (r ≡ exonOrIntron (findExonOrIntron xs p)) × FoundAt xs p r ⌝ }
 {
-    let found = starting(starts, ends, strand, p);
-    let n = found.count;
+    let n = started(starts, ends, strand, p);
     let i = n - 1;
     let s = starts[i];
     let e = ends[i];
     let past = end_of(strand, s, e);
     if p < past {
-        return ExonOrIntron::Exon(i, found.start, past);
+        return ExonOrIntron::Exon(i, start_of(strand, s, e), past);
     }
     if n < starts.len() {
         let t = starts[n];

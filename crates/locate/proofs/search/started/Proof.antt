@@ -1,30 +1,27 @@
--- `locate::search::starting` meets its contract. The loop's invariant is `Bracket`; the measure is what is left.
+-- `locate::search::started` meets its contract. The loop's invariant is `Bracket`; the measure is what is left.
 -- Assumes nothing.
 use Prim.Native.Nat.{_+_, _-_, _/_, _≤_}
-use mathlib.Core.Path.{_≡_, sym, _∙_}
 use mathlib.Core.Logic.{⊎-elim}
 use native.Mathlib.Omega.{arith}
 use borrow.Author.Needs.{needs}
 use denote.Ref.{now}
 use lib.ListN.{length}
 use Rattle.transcript.specs.code.Lent.{lentExons}
-use Rattle.locate.specs.code.Search.{LastStart}
 use Rattle.locate.proofs.Searching.{Bracket, second-half, first-half, ascends, count, start-at}
-use Rattle.locate.proofs.search.starting.Statement.{statement}
-use Rattle.locate.proofs.search.starting.Tie as tie
+use Rattle.locate.proofs.search.started.Statement.{statement}
+use Rattle.locate.proofs.search.started.Tie as tie
 
 abbrev Inv-loop : tie.InvT-loop
-Inv-loop starts ends strand p count₀ start₀ left₀ count start left =
-    (count + left ≤ length starts) × Bracket (lentExons strand starts ends) p count (count + left) × LastStart (lentExons strand starts ends) count start
+Inv-loop starts ends strand p lo₀ left₀ lo left = (lo + left ≤ length starts) × Bracket (lentExons strand starts ends) p lo (lo + left)
 
 abbrev μ-loop : tie.MeasureT-loop
-μ-loop starts ends strand p count₀ start₀ left₀ count start left = left
+μ-loop starts ends strand p lo₀ left₀ lo left = left
 
 loop-holds : tie.Need-loop-holds Inv-loop μ-loop
 loop-holds c =
     let a = c .before .before .pre in
     let n = count (c .before .before .args .strand) (now (c .before .before .args .starts)) (now (c .before .before .args .ends)) a in
-    (omega arith, record { lo-le = omega arith; hi-le = omega arith; before = λ k q. absurd (omega arith); after = λ k q r. absurd (omega arith) }, λ q. absurd (omega arith))
+    (omega arith, record { lo-le = omega arith; hi-le = omega arith; before = λ k q. absurd (omega arith); after = λ k q r. absurd (omega arith) })
 
 sub-half : tie.Need-sub-half Inv-loop μ-loop
 sub-half c = omega arith
@@ -50,8 +47,8 @@ shared-slice-read-e c = omega arith
 start-of-requires : tie.Need-start-of-requires Inv-loop μ-loop
 start-of-requires c κs = search needs
 
-add-count : tie.Need-add-count Inv-loop μ-loop
-add-count c = omega arith
+add-lo : tie.Need-add-lo Inv-loop μ-loop
+add-lo c = omega arith
 
 sub-left : tie.Need-sub-left Inv-loop μ-loop
 sub-left c = omega arith
@@ -64,23 +61,23 @@ loop-again c =
     let b = c .before .before .before .before .before .before .before .before in
     let l = c .before .before .before .before .before .loop in
     let xs = lentExons (b .args .strand) (now (b .args .starts)) (now (b .args .ends)) in
-    let mid = l .count + (l .left - l .left / 2) - 1 in
+    let mid = l .lo + (l .left - l .left / 2) - 1 in
     let o = ascends (b .args .strand) (now (b .args .starts)) (now (b .args .ends)) (b .pre) in
     let e = start-at (b .args .strand) (now (b .args .starts)) (now (b .args .ends)) (b .pre) mid (omega arith) in
     let f = c .before .start-of .ensures in
     ⊎-elim
-    (λ w. rw (w .1, w .2) (omega arith, second-half xs (b .args .p) (l .count) (l .left) o (l .inv .1) (omega arith) (let t = w .0 .taken in omega arith), λ q. let m : mid + 1 - 1 ≡ mid = omega arith in rw m (f ∙ sym e)))
-    (λ w. rw (w .1, w .2) (omega arith, first-half xs (b .args .p) (l .count) (l .left) o (l .inv .1) (omega arith) (let t = w .0 .left in omega arith), l .inv .2))
+    (λ w. rw (w .1) (omega arith, second-half xs (b .args .p) (l .lo) (l .left) o (l .inv .1) (omega arith) (let t = w .0 .taken in omega arith)))
+    (λ w. rw (w .1) (omega arith, first-half xs (b .args .p) (l .lo) (l .left) o (l .inv .1) (omega arith) (let t = w .0 .left in omega arith)))
     (c .if1 .came)
 
 returns : tie.Need-returns Inv-loop μ-loop
 returns c =
     let l = c .before .loop in
     let i = l .inv .1 in
-    ((omega arith, record { before = i .before; after = λ k q r. i .after k (omega arith) r }), l .inv .2)
+    (omega arith, record { before = i .before; after = λ k q r. i .after k (omega arith) r })
 
-pub starting-spec : {M : Type 1} → statement M
-starting-spec =
+pub started-spec : {M : Type 1} → statement M
+started-spec =
     tie.close
     (tie.spec
     Inv-loop
@@ -94,7 +91,7 @@ starting-spec =
     mul-e
     shared-slice-read-e
     start-of-requires
-    add-count
+    add-lo
     sub-left
     loop-less
     loop-again
