@@ -92,8 +92,8 @@ pub fn put_coding(
     ensures { λ _. ⌜ ((t : Oriented) (p : ℕ)
         → length (t .exons) ≡ exons
         → cdnaPosition t p ≡ cdna .0
-        → now out.exit ≡ sets (now out.entry) at (calledWords (Called.Answered (exonResult t p (CdsExon index segment offset number position mark) index
-        (columnsOf (offset .0) number position c) (terms .0))))) ⌝ }
+        → now out.exit ≡ sets (now out.entry) at (calledWords (Called.Answered (exonResult t p (CdsExon index segment offset number position mark)
+        index (columnsOf (offset .0) number position c) (terms .0))))) ⌝ }
 {
     let row = coding_row(index, segment, offset, number, position, mark);
     put_row(out, at, row);
