@@ -1,4 +1,6 @@
 // The answers to the questions, left as numbers or as a line in a lent buffer.
+#![tactic(auto)]
+
 mod call;
 mod calls;
 mod cds;

@@ -2,6 +2,8 @@
 // rows for each, one for each column of the lines AAs, Base1, Base2 and Base3 that
 // https://www.ncbi.nlm.nih.gov/Taxonomy/Utils/wprintgc.cgi publishes, as three bases, a space and the letter. Writes for each table the
 // codons, and the codons with one base replaced, that have another letter, and how many there are.
+#![tactic(auto)]
+
 ghost use Rattle.std.specs.Prelude.{◌<◌, ◌≤◌};
 
 use codon::{Codon, GeneticCode, build_alt_codon, translate_altered_codon, translate_codon};

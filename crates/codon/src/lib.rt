@@ -1,4 +1,6 @@
 // Base numbers, the genetic codes, and the letters of a codon and of a codon with one base replaced.
+#![tactic(auto)]
+
 mod altered;
 mod bases;
 mod display;
@@ -12,14 +14,14 @@ pub use table::{translate_codon, translate_reference_codon};
 pub use translate::{translate_altered_codon, translate_codons};
 
 // NCBI's tables 1 and 2.
-#[derive(Drop)]
+#[derive(Clone, Copy)]
 pub enum GeneticCode {
     Standard,
     VertebrateMitochondrial,
 }
 
 // The bases of one codon in coding order: three, or the one or two of an unfinished last codon. A base that is not there is 0.
-#[derive(Drop)]
+#[derive(Clone, Copy)]
 pub struct Codon {
     pub len: u8,
     pub first: u8,
@@ -28,14 +30,14 @@ pub struct Codon {
 }
 
 // The letters of a reference codon and of that codon with one base replaced.
-#[derive(Drop)]
+#[derive(Clone, Copy)]
 pub struct Letters {
     pub reference: u8,
     pub altered: u8,
 }
 
 // What the codons column shows: the reference and the altered codon, and the place of the changed base.
-#[derive(Drop)]
+#[derive(Clone, Copy)]
 pub enum Codons {
     Absent,
     Change {
@@ -46,7 +48,7 @@ pub enum Codons {
 }
 
 // What the letters column shows: one letter, or the reference and the altered letter.
-#[derive(Drop)]
+#[derive(Clone, Copy)]
 pub enum AminoAcids {
     Absent,
     One(u8),

@@ -7,7 +7,7 @@ use crate::bases::base_number;
 use crate::{Codon, GeneticCode};
 
 // The place of a codon in a code table, 0 to 63.
-#[derive(Drop)]
+#[derive(Clone, Copy)]
 pub(crate) enum CodonIndex {
     Numbered(u8),
     NoCodon,

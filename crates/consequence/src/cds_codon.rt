@@ -21,7 +21,7 @@ use locate::{CdsOffset, IndexScalars};
 use transcript::Strand;
 
 // What the codon of a coding base gives, unless it is not all in the window.
-#[derive(Drop)]
+#[derive(Clone, Copy)]
 pub enum CdsCodon {
     Read(CodonColumns),
     OutsideWindow,

@@ -13,7 +13,7 @@ use codon::{AminoAcids, Codon, build_alt_codon, translate_codons};
 use terms::{Consequence, TermSet, coding_term};
 
 // Codon number and codons are shown or not; an answer has them as enums, which cost moves where they are handed on.
-#[derive(Drop)]
+#[derive(Clone, Copy)]
 pub struct CodonColumns {
     pub shown: bool,
     pub reference: Codon,

@@ -1,4 +1,6 @@
 // The single-base call: its types and its questions.
+#![tactic(auto)]
+
 mod admitted;
 mod answer;
 mod cdna;
@@ -35,7 +37,7 @@ pub use spill::spill_at;
 pub use summed::annotate_summed;
 use terms::TermSet;
 
-#[derive(Drop)]
+#[derive(Clone, Copy)]
 pub struct Call {
     pub chromosome: u16,
     pub position: u64,
@@ -44,41 +46,41 @@ pub struct Call {
 }
 
 // A base read through the window.
-#[derive(Drop)]
+#[derive(Clone, Copy)]
 pub enum FetchedBase {
     Base(u8),
     OutsideWindow,
 }
 
-#[derive(Drop)]
+#[derive(Clone, Copy)]
 pub enum FetchedCodon {
     Bases(Codon),
     OutsideWindow,
 }
 
 // An exon or intron number k of n.
-#[derive(Drop)]
+#[derive(Clone, Copy)]
 pub enum Numbered {
     Absent,
     Of { number: u16, total: u16 },
 }
 
 // A position or number that counts from 1.
-#[derive(Drop)]
+#[derive(Clone, Copy)]
 pub enum Counted {
     Absent,
     At(u32),
 }
 
 // A cDNA position: no padded offset can stand here.
-#[derive(Drop)]
+#[derive(Clone, Copy)]
 pub enum CdnaCounted {
     Absent,
     At(CdnaPosition),
 }
 
 // The whole answer to a call.
-#[derive(Drop)]
+#[derive(Clone, Copy)]
 pub struct ConsequenceResult {
     pub location: VariantLocation,
     pub exon: Numbered,
@@ -91,7 +93,7 @@ pub struct ConsequenceResult {
     pub consequences: TermSet,
 }
 
-#[derive(Drop)]
+#[derive(Clone, Copy)]
 pub enum Called {
     Answered(ConsequenceResult),
     Refused(u8),

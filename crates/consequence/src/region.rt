@@ -7,7 +7,7 @@ use terms::{Consequence, TermSet};
 
 // The index of the exon or intron, its term and its splice mark. A coding base has its padded offset, its codon number and its place in
 // the codon in place of a term.
-#[derive(Drop)]
+#[derive(Clone, Copy)]
 pub enum Region {
     Distal,
     Flank {

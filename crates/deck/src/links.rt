@@ -6,7 +6,7 @@ ghost use Rattle.deck.specs.code.Links.{exon_link, segment_link, next_link, boun
 use crate::record::half_of;
 
 // A link: the kind that it must lead to, the record that holds it, and the record that it leads to, 0 for none.
-#[derive(Drop)]
+#[derive(Clone, Copy)]
 pub struct Link {
     pub kind: u8,
     pub from: usize,

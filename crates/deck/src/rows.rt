@@ -9,7 +9,7 @@ use crate::part::{exon_part, least};
 use transcript::{CdsBounds, Exon, Strand, TranscriptModel};
 
 // Where the exons of a transcript, its bounds, its segments and its selenocysteine bases end.
-#[derive(Drop)]
+#[derive(Clone, Copy)]
 pub struct Rows {
     pub exons: usize,
     pub bounds: usize,

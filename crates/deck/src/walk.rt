@@ -8,7 +8,7 @@ use crate::links::{bounds_after, exon_link, link_of, next_link};
 use crate::record::kind_of;
 
 // How a walk ends: with all records reached, so many besides the head; or the record whose link is bad, else the lowest never reached.
-#[derive(Drop)]
+#[derive(Clone, Copy)]
 pub enum Walked {
     All(usize),
     Bad(usize),

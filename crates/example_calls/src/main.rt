@@ -1,4 +1,6 @@
 // Document 01's transcript T1 with its window, and its three calls, printed as lines.
+#![tactic(auto)]
+
 use consequence::{Call, Called, annotate_snv};
 use libc::STDOUT_FILENO;
 use lines::Written;

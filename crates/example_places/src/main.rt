@@ -1,4 +1,6 @@
 // Examples of the documents, each as a line: places, admissions, short introns and flanks.
+#![tactic(auto)]
+
 mod admissions;
 mod flanks;
 mod introns;

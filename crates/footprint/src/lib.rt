@@ -1,5 +1,7 @@
 // Questions about a footprint, an interval that may be empty: where it lies beside a transcript, whether an end of it lies in a
 // short intron, and whether the splice windows of a short intron reach it.
+#![tactic(auto)]
+
 mod base;
 mod beside;
 mod ends;
@@ -17,7 +19,7 @@ pub use source::source_ranges;
 pub use windows::exonic_splice_spill;
 
 // The lengths that a place is judged by: of the flank beside a transcript, and of the splice region into the intron on each side.
-#[derive(Drop)]
+#[derive(Clone, Copy)]
 pub struct Ranges {
     pub flank: u64,
     pub donor: u64,
@@ -25,7 +27,7 @@ pub struct Ranges {
 }
 
 // Where a footprint lies beside a transcript, with its distance.
-#[derive(Drop)]
+#[derive(Clone, Copy)]
 pub enum Flank {
     Overlaps,
     Upstream(u64),
@@ -34,27 +36,27 @@ pub enum Flank {
 }
 
 // Which splice windows of short introns a footprint beside these introns hits.
-#[derive(Drop)]
+#[derive(Clone, Copy)]
 pub struct SpliceSpill {
     pub donor: bool,
     pub acceptor: bool,
 }
 
 // The answers: what was asked for, or the number of the refusal.
-#[derive(Drop)]
+#[derive(Clone, Copy)]
 pub enum Flanked {
     Beside(Flank),
     Refused(u8),
 }
 
-#[derive(Drop)]
+#[derive(Clone, Copy)]
 pub enum Endpoint {
     Intron(u16),
     Nowhere,
     Refused(u8),
 }
 
-#[derive(Drop)]
+#[derive(Clone, Copy)]
 pub enum Spilled {
     Spill(SpliceSpill),
     Refused(u8),

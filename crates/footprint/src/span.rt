@@ -9,7 +9,7 @@ use transcript::Strand;
 use transcript::oriented::{end_of, start_of};
 
 // The bases from `start` to just before `end`.
-#[derive(Drop)]
+#[derive(Clone, Copy)]
 pub struct Span {
     pub start: u64,
     pub end: u64,

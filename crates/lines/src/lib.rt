@@ -1,4 +1,6 @@
 // Printed lines of answered and refused calls.
+#![tactic(auto)]
+
 pub mod answer;
 mod called;
 mod columns;
@@ -8,7 +10,7 @@ mod places;
 pub use called::write_called;
 
 // A line put into a lent buffer: its length with the newline, or the number of the refusal.
-#[derive(Drop)]
+#[derive(Clone, Copy)]
 pub enum Written {
     Bytes(usize),
     Refused(u8),

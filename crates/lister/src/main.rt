@@ -1,5 +1,7 @@
 // Lists calls against a deck: reads the deck, the window and the calls on standard input, and prints one line for each call and
 // transcript, or the line of a refusal.
+#![tactic(auto)]
+
 mod files;
 mod help;
 mod printing;

@@ -1,4 +1,5 @@
 // Where a base lies in a transcript: the answers' types, the index and the questions.
+#![tactic(auto)]
 
 mod alone;
 mod build;
@@ -22,14 +23,14 @@ pub use selenocysteine::selenocysteine_codons;
 use transcript::Admission;
 pub use variant::locate_variant;
 
-#[derive(Drop)]
+#[derive(Clone, Copy)]
 pub enum SpliceSide {
     Donor,
     Acceptor,
 }
 
 // Where a base lies in a transcript: the cases and fields of the Rust.
-#[derive(Drop)]
+#[derive(Clone, Copy)]
 pub enum VariantLocation {
     Upstream {
         distance: u64,
@@ -89,7 +90,7 @@ pub enum VariantLocation {
 
 // Which exon or intron of a transcript holds a base: its index, and its start and end in oriented coordinates. An intron has the
 // index of the exon before it.
-#[derive(Drop)]
+#[derive(Clone, Copy)]
 pub enum ExonOrIntron {
     Exon(usize, u64, u64),
     Intron(usize, u64, u64),
@@ -97,20 +98,20 @@ pub enum ExonOrIntron {
 }
 
 // The two counters that are never read for each other: coding bases from 0 with the pad before them, and exonic bases from 1.
-#[derive(Drop)]
+#[derive(Clone, Copy)]
 pub struct CdsOffset(pub u32);
 
-#[derive(Drop)]
+#[derive(Clone, Copy)]
 pub struct CdnaPosition(pub u32);
 
 // Codon numbers of up to 64 bases, then zeros.
-#[derive(Drop)]
+#[derive(Clone, Copy)]
 pub struct CodonNumbers {
     pub numbers: [u32; 64],
 }
 
 // The scalars of an index. Without a CDS the numbers of its exons are 0.
-#[derive(Drop)]
+#[derive(Clone, Copy)]
 pub struct IndexScalars {
     pub cds_start_pad: u32,
     pub exon_count: usize,
@@ -140,7 +141,7 @@ pub struct Indexed {
 }
 
 // The answers: what was asked for, or the number of the refusal.
-#[derive(Drop)]
+#[derive(Clone, Copy)]
 pub enum Located {
     At(VariantLocation),
     Refused(u8),

@@ -19,7 +19,7 @@ use footprint::Ranges;
 use transcript::oriented::{end_of, start_of};
 use transcript::{Strand, TranscriptModel};
 
-#[derive(Drop)]
+#[derive(Clone, Copy)]
 struct LastStarted {
     index: usize,
     start: u64,

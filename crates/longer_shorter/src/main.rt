@@ -1,6 +1,8 @@
 // A pair of a shorter and a longer transcript, and the answers of both to the same calls, one below the other: numbers, totals and
 // cDNA positions move by what was added, the mark and its term are gained at the two ends, and all else stays. The same of the pair on
 // chromosome 25, where ATA reads M, AGA is a stop and TGA is none.
+#![tactic(auto)]
+
 use consequence::{Call, Called, annotate_snv};
 use libc::STDOUT_FILENO;
 use lines::Written;

@@ -1,4 +1,6 @@
 // The names of the Ontology's terms, by severity rank.
+#![tactic(auto)]
+
 ghost use Rattle.std.specs.Prelude.{◌+◌, ◌<◌, ◌^◌, ◌≡◌, length, get_or};
 ghost use Rattle.common.specs.Stored.{Pushed};
 ghost use Rattle.names.specs.Names.{term_name};

@@ -1,5 +1,7 @@
 // The listing in pieces. What is judged once, the deck with its transcripts, is kept in columns that the caller lends: the deck's table,
 // and an index of it.
+#![tactic(auto)]
+
 mod call;
 mod called;
 mod fill;

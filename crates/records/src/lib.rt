@@ -1,4 +1,6 @@
 // Entries over lent records: exons as a slice of records, and the window as a struct that holds its bytes.
+#![tactic(auto)]
+
 mod bases;
 mod call;
 mod place;
@@ -17,7 +19,7 @@ pub struct ExonTable {
 }
 
 // A chromosome, the coordinate of its first base, and lent bytes, taken as they stand.
-#[derive(Drop)]
+#[derive(Clone, Copy)]
 pub struct Window<'a> {
     pub chromosome: u16,
     pub first: u64,

@@ -1,5 +1,7 @@
 // Holds the port against the Rust's answers, a list of blocks on standard input: writes a line for each answer that differs, then
 // for each kind of block how many answers were compared and how many differ. oracle/README.md has the list's layout.
+#![tactic(auto)]
+
 mod answers;
 mod asking;
 mod blocks;

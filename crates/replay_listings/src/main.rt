@@ -1,6 +1,8 @@
 // Holds whole listings against stored lines. Standard input has case after case: the lengths of the deck, the window file, the calls
 // and the lines, four bytes each, then these bytes (tests/README.md). Writes of each case that differs where, then how many listings
 // were compared, how many of their bytes are the same, and how many listings differ.
+#![tactic(auto)]
+
 mod cases;
 mod compare;
 mod stored;

@@ -1,5 +1,7 @@
 // Holds the names of the crate terms against those of the Rust, which are on standard input: a line for each term in the order of
 // the ranks, with the rank, a space and the name. Writes each rank whose line is another here, and how many there are.
+#![tactic(auto)]
+
 ghost use Rattle.std.specs.Prelude.{◌≤◌, ◌<◌, length};
 
 use libc::{STDIN_FILENO, STDOUT_FILENO};

@@ -1,4 +1,6 @@
 // The Sequence Ontology's terms by severity, and sets of terms.
+#![tactic(auto)]
+
 mod coding;
 mod set;
 mod severity;
@@ -6,7 +8,7 @@ mod severity;
 pub use coding::{coding_term, spill_terms};
 
 // The Ontology's terms, most severe first: the names of the Rust, in the order of their severity ranks 1 to 28.
-#[derive(Drop)]
+#[derive(Clone, Copy)]
 pub enum Consequence {
     TranscriptAblation,
     TranscriptAmplification,
@@ -39,5 +41,5 @@ pub enum Consequence {
 }
 
 // A set of terms: bit (severity rank - 1) for each.
-#[derive(Drop)]
+#[derive(Clone, Copy)]
 pub struct TermSet(pub u32);

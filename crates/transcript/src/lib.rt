@@ -1,4 +1,6 @@
 // A transcript as it is handed in, and whether it is admitted. Coordinates are 0-based and half-open.
+#![tactic(auto)]
+
 mod coding;
 pub mod limits;
 pub mod order;
@@ -15,19 +17,19 @@ use limits::{are_even, bad_coordinates, bad_numbers, end_or_zero, start_or_zero}
 use order::{bad_bounds, bad_cds, bad_pad, bad_phases, in_order};
 use segments::{bad_selenocysteine, index_fault};
 
-#[derive(Drop)]
+#[derive(Clone, Copy)]
 pub enum Strand {
     Plus,
     Minus,
 }
 
-#[derive(Drop)]
+#[derive(Clone, Copy)]
 pub struct Exon {
     pub genomic_start: u64,
     pub genomic_end: u64,
 }
 
-#[derive(Drop)]
+#[derive(Clone, Copy)]
 pub struct CdsSegment {
     pub phase: u8,
     pub exon_index: u16,
@@ -36,7 +38,7 @@ pub struct CdsSegment {
 }
 
 // Both or neither of cds_genomic_start and cds_genomic_end.
-#[derive(Drop)]
+#[derive(Clone, Copy)]
 pub enum CdsBounds {
     Neither,
     Both {
@@ -46,7 +48,7 @@ pub enum CdsBounds {
 }
 
 // A transcript without its lists of exons, CDS segments and selenocysteine bases, which stand beside it.
-#[derive(Drop)]
+#[derive(Clone, Copy)]
 pub struct TranscriptModel {
     pub id: u32,
     pub chromosome: u16,
@@ -59,7 +61,7 @@ pub struct TranscriptModel {
 }
 
 // Whether a transcript is admitted, or the number of its refusal.
-#[derive(Drop)]
+#[derive(Clone, Copy)]
 pub enum Admission {
     Admitted,
     Refused(u8),

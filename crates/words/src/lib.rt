@@ -1,5 +1,7 @@
 // What is handed over the boundary: scalars in structs of C's layout become a model and a call, and an answer is put into a lent
 // buffer as signed numbers.
+#![tactic(auto)]
+
 mod call;
 mod called;
 mod coding;
@@ -21,7 +23,7 @@ pub use model::model_of;
 
 // A transcript's scalars. Where `has_cds` is false the CDS bounds are not read.
 #[repr(C)]
-#[derive(Drop)]
+#[derive(Clone, Copy)]
 pub struct VareffectModel {
     pub id: u32,
     pub chromosome: u16,
@@ -37,7 +39,7 @@ pub struct VareffectModel {
 
 // Where the lent bases begin.
 #[repr(C)]
-#[derive(Drop)]
+#[derive(Clone, Copy)]
 pub struct VareffectWindow {
     pub chromosome: u16,
     pub first: u64,
@@ -45,7 +47,7 @@ pub struct VareffectWindow {
 
 // A single-nucleotide variant.
 #[repr(C)]
-#[derive(Drop)]
+#[derive(Clone, Copy)]
 pub struct VareffectCall {
     pub chromosome: u16,
     pub ref_base: u8,
@@ -55,7 +57,7 @@ pub struct VareffectCall {
 
 // The number of a refusal, 0 for none, and what was asked for.
 #[repr(C)]
-#[derive(Drop)]
+#[derive(Clone, Copy)]
 pub struct VareffectOutcome {
     pub number: u64,
     pub value: u64,

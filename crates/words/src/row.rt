@@ -10,7 +10,7 @@ use crate::words::{cap, signed};
 use locate::{CdsOffset, SpliceSide, VariantLocation};
 
 // The numbers of a place. All but the distance count.
-#[derive(Drop)]
+#[derive(Clone, Copy)]
 pub(crate) struct Row {
     pub kind: u32,
     pub mark: u32,

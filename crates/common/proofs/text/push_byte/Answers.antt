@@ -7,8 +7,9 @@ pub returns : goal.returns
 returns c =
     let a = c.args in
     elim c.if-at-out.branch [
-      then-at-out w ↦ rw w.out-is (pushed_byte a.out.now a.at a.b)
-    | else-at-out w ↦ rw w.out-is (pushed_past a.out.now a.at a.b w.if-at-out.false) ]
+      | then-at-out w ↦ rw w.out-is (pushed_byte a.out.now a.at a.b)
+      | else-at-out w ↦ rw w.out-is (pushed_past a.out.now a.at a.b w.if-at-out.false)
+    ]
 
 pub shape_of-out : goal.shape_of-out
 shape_of-out c = pushed_length (returns c)

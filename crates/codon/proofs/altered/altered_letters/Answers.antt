@@ -1,0 +1,12 @@
+-- Every entry is the letter of its codon with its base at its place, in its genetic code: antt computes all 1,536 and compares.
+use mathlib.Core.Path.{refl}
+use Rattle.common.proofs.Table.{entry_at}
+use Rattle.codon.specs.Bases.{base_number, base_byte}
+use Rattle.codon.specs.Table.{standard_table, mitochondrial_table, codon_to_index, translate_codon, build_alt_codon}
+use Rattle.codon.specs.Altered.{altered_letter}
+use Rattle.codon.proofs.Stored.{each_entry, both_letters}
+use Rattle.codon.proofs.altered.altered_letters.Goals as goal
+
+pub returns : goal.returns
+unfolding altered_letter translate_codon standard_table mitochondrial_table build_alt_codon codon_to_index base_number base_byte
+returns c = both_letters _ refl (λ n h. entry_at each_entry 1536 n h)
