@@ -1,7 +1,7 @@
 -- Coding base k, and how many coding bases come before it: each is found from the other.
 -- Assumes nothing.
 use Prim.Native.Nat.{ℕ, ◌+◌, ◌-◌, ◌≤◌, ◌<◌, min, max}
-use mathlib.Core.Path.{◌≡◌, refl, sym, ◌∙◌, ap}
+use mathlib.Core.Path.{subst, ◌≡◌, refl, sym, ◌∙◌, ap}
 use mathlib.Core.Bool.{true}
 use mathlib.Core.List.{List, [], ◌∷◌}
 use native.Mathlib.Omega.{arith}
@@ -65,7 +65,9 @@ numbered_base (x ∷ xs) e k a l =
     let r = numbered_base xs x.end (k - size x) a.2 (omega arith) in
     let f = (inside_from x.end xs (coding_position xs (k - size x)) a.2 r.0).0 in
     let u = r.1 in
-    rw (h, before_past x.start x.end (coding_position xs (k - size x)) f) (or_right (inside (coding_position xs (k - size x)) x) (inside_any (coding_position xs (k - size x)) xs) r.0, omega arith)))
+    let g : coding_position (x ∷ xs) k ≡ coding_position xs (k - size x) = rw h in
+    let Stands : ℕ → Type 0 = λ q. (inside_any q (x ∷ xs) ≡ true) × (bases_in (x ∷ xs) 0 q ≡ k) in
+    subst Stands (sym g) (rw (before_past x.start x.end (coding_position xs (k - size x)) f) (or_right (inside (coding_position xs (k - size x)) x) (inside_any (coding_position xs (k - size x)) xs) r.0, omega arith))))
 
 module _ (t : Transcript) (n : ℕ) (ad : Admitted t) where
   pub segment_base : (p : ℕ) → is_coding t.segments p ≡ true → inside_any (orient_base t.model.strand p) (oriented t).segments ≡ true

@@ -1,0 +1,31 @@
+use Prim.Native.Nat.{ℕ, ◌+◌, ◌-◌}
+use mathlib.Core.Path.{◌∙◌, ap}
+use native.Mathlib.Omega.{arith}
+use Rattle.locate.proofs.BasesBefore.{lengths_low, start_before, base_low, bases_are, bases_low}
+use Rattle.locate.proofs.lengths.bases_before.Goals as goal
+
+pub length_before-requires : goal.length_before-requires
+length_before-requires c =
+    let r = c.requires.ready in
+    let l = c.requires.k_in_bounds.0 in
+    record { starts_len = (r.even, r.few, omega arith); ends_value = r.edges; ends_bound = lengths_low c.args.strand c.args.starts.now c.args.ends.now r }
+
+pub overflow_sub-result : goal.overflow_sub-result
+overflow_sub-result c =
+    start_before c.args.strand c.args.starts.now c.args.ends.now c.requires.ready c.args.k c.args.p c.start_of.result c.requires.k_in_bounds.0 c.requires.k_in_bounds.1 c.start_of.ensures
+
+pub overflow_cast-result : goal.overflow_cast-result
+overflow_cast-result c =
+    let l = base_low c.args.strand c.args.starts.now c.args.ends.now c.requires.ready c.args.k c.args.p c.start_of.result c.requires.k_in_bounds.0 c.requires.k_in_bounds.1 c.start_of.ensures in
+    omega arith
+
+pub overflow_add-result : goal.overflow_add-result
+overflow_add-result c =
+    let l = bases_low c.args.strand c.args.starts.now c.args.ends.now c.requires.ready c.args.k c.args.p c.start_of.result c.requires.k_in_bounds.0 c.requires.k_in_bounds.1 c.start_of.ensures in
+    let e = c.length_before.ensures in
+    omega arith
+
+pub returns : goal.returns
+returns c =
+    ap (λ (n : ℕ). n + (c.args.p - c.start_of.result)) c.length_before.ensures
+    ∙ bases_are c.args.strand c.args.starts.now c.args.ends.now c.requires.ready c.args.k c.args.p c.start_of.result c.requires.k_in_bounds.0 c.requires.k_in_bounds.1 c.start_of.ensures

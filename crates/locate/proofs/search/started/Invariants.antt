@@ -1,0 +1,11 @@
+use Prim.Native.Nat.{◌+◌, ◌≤◌}
+use lib.ListN.{length}
+use Rattle.transcript.specs.code.Lent.{lent_exons}
+use Rattle.locate.proofs.Searching.{Bracket}
+use Rattle.locate.proofs.search.started.Given as goal
+
+abbrev pub invariant-loop-left : goal.invariant-loop-left
+invariant-loop-left l = (l.lo + l.left ≤ length l.starts) × Bracket (lent_exons l.strand l.starts l.ends) l.p l.lo (l.lo + l.left)
+
+abbrev pub decreases-loop-left : goal.decreases-loop-left
+decreases-loop-left l = l.left
