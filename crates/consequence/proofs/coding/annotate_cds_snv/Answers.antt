@@ -1,0 +1,39 @@
+-- The answer from what the codon gives.
+use Prim.Native.Nat.{ℕ}
+use mathlib.Core.Path.{sym, ◌∙◌, ap}
+use Rattle.transcript.specs.Orient.{Oriented}
+use Rattle.consequence.specs.declared.Called.{Called}
+use Rattle.consequence.specs.declared.cds_codon.CdsCodon.{CdsCodon}
+use Rattle.consequence.specs.code.AtPlace.{columns_of, columns_called}
+use Rattle.consequence.specs.Answer.{exon_result}
+use Rattle.consequence.proofs.coding.annotate_cds_snv.Goals as goal
+use Rattle.consequence.proofs.coding.annotate_cds_snv.Goals.{Start}
+
+-- the answer from what the codon gives
+abbrev called : Start → Oriented → ℕ → CdsCodon → Called
+called b t p r = columns_called t p b.args.place b.args.i b.args.offset b.args.number b.args.position b.args.mark r
+
+pub read_cds_codon-read-requires : goal.read_cds_codon-read-requires
+read_cds_codon-read-requires c =
+    record { in_bounds = c.requires.in_bounds; segments = c.requires.segments; segment_count_value = c.requires.segment_count_value; selenocysteine_count_bound = c.requires.selenocysteine_count_bound }
+
+pub returns-in_default : goal.returns-in_default
+returns-in_default c =
+    λ table t p e he hs hc hg hu hd.
+    ap (called (goal.at.returns-in_default c).Start t p) (sym c.in_default.is)
+    ∙ c.read_cds_codon-read.ensures table t e hs hc hg hu p c.args.place c.args.i c.args.mark
+
+pub cdna_position-cdna-requires : goal.cdna_position-cdna-requires
+cdna_position-cdna-requires c = let h = c.requires.i_bound in (h.2, h.3)
+
+pub coding_result-requires : goal.coding_result-requires
+coding_result-requires c = let h = c.requires.i_bound in (h.0, h.1)
+
+pub returns : goal.returns
+returns c =
+    λ table t p e he hs hc hg hu hd.
+    ap Called.Answered
+    (c.coding_result.ensures t p he (hd ∙ sym c.cdna_position-cdna.ensures)
+    ∙ ap (λ (n : ℕ). exon_result t p c.args.place c.args.i (columns_of c.args.offset.0 c.args.number c.args.position c.in-Read.columns) n) c.with_mark-terms.ensures)
+    ∙ ap (called (goal.at.returns c).Start t p) (sym c.in-Read.is)
+    ∙ c.read_cds_codon-read.ensures table t e hs hc hg hu p c.args.place c.args.i c.args.mark

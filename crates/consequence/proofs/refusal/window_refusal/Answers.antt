@@ -1,0 +1,13 @@
+use mathlib.Core.Path.{sym, ◌∙◌}
+use Rattle.consequence.specs.Window.{window_from}
+use Rattle.consequence.proofs.Refusals.{is_17, is_18, is_none}
+use Rattle.consequence.proofs.refusal.window_refusal.Goals as goal
+
+pub returns-in_default : goal.returns-in_default
+returns-in_default c = let a = c.args in is_17 (window_from a.first a.bytes.now) a.call (sym c.base_at.ensures ∙ c.in_default.is)
+
+pub returns-then-call-found : goal.returns-then-call-found
+returns-then-call-found c = let a = c.args in is_18 (window_from a.first a.bytes.now) a.call c.in-Base.found (sym c.base_at.ensures ∙ c.in-Base.is) c.if-call-found.true
+
+pub returns : goal.returns
+returns c = let a = c.args in is_none (window_from a.first a.bytes.now) a.call c.in-Base.found (sym c.base_at.ensures ∙ c.in-Base.is) c.if-call-found.false
