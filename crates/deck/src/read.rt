@@ -1,7 +1,7 @@
 // Reading a deck: its table, and whether its transcripts are admitted.
 ghost use Rattle.std.specs.Prelude.{◌≤◌, ◌≡◌, length};
 ghost use Rattle.deck.specs.Deck.{read_deck};
-ghost use Rattle.deck.specs.code.Table.{table_given, table_left, table_of, empty_table, deck_table};
+ghost use Rattle.deck.specs.code.Table.{table_lent, table_left, table_of, empty_table, deck_table};
 ghost use Rattle.deck.specs.code.Reached.{InDeck};
 
 use crate::DeckAnswer;
@@ -21,7 +21,7 @@ fn store_rows(
     ends: &mut [u64; 4096],
 )
     requires order_len_bound { (length order.now ≤ 4096) × InDeck d.now order.now }
-    requires ends_value { table_given kinds marks ids numbers starts ends ≡ empty_table }
+    requires ends_value { table_lent kinds marks ids numbers starts ends ≡ empty_table }
     ensures { table_left kinds marks ids numbers starts ends ≡ table_of d.now order.now }
 {
     store_bytes(d, order, 0, kinds);
@@ -42,7 +42,7 @@ pub fn read_deck(
     starts: &mut [u64; 4096],
     ends: &mut [u64; 4096],
 ) -> DeckAnswer
-    requires { table_given kinds marks ids numbers starts ends ≡ empty_table }
+    requires { table_lent kinds marks ids numbers starts ends ≡ empty_table }
     ensures value { result ≡ read_deck d.now }
     ensures ends_value { table_left kinds marks ids numbers starts ends ≡ deck_table d.now }
 {

@@ -9,8 +9,9 @@ use Rattle.transcript.specs.declared.Exon.{Exon}
 use Rattle.transcript.specs.declared.TranscriptModel.{TranscriptModel}
 use Rattle.transcript.specs.Transcript.{Transcript, exons_of, lent}
 use Rattle.transcript.specs.Admission.{admission_of}
+use Rattle.deck.specs.Lent.{Lent, PassedLent}
 use Rattle.deck.specs.declared.DeckAnswer.{DeckAnswer}
-use Rattle.deck.specs.declared.DeckAnswer.TheVariants.{Accepted, Refused}
+use Rattle.deck.specs.declared.DeckAnswer.TheVariants.{Accepted}
 use Rattle.deck.specs.declared.structure.Structure.{Structure}
 use Rattle.deck.specs.declared.rows.Rows.{Rows}
 use Rattle.deck.specs.Records.{lowest, kind_of, mark_of, half, word, transcript_kind, bounds_kind, exon_kind, segment_kind, selenocysteine_kind}
@@ -37,9 +38,14 @@ abbrev pub table_was_given : Passed → Passed → Passed → Passed → Passed 
 table_was_given kinds marks ids numbers starts ends =
     table_given kinds.entry marks.entry ids.entry numbers.entry starts.entry ends.entry
 
+-- the table in columns lent to be filled, as a `requires` names them
+abbrev pub table_lent : Lent → Lent → Lent → Lent → Lent → Lent → DeckTable
+table_lent kinds marks ids numbers starts ends =
+    record { kinds = kinds.now; marks = marks.now; ids = ids.now; numbers = numbers.now; starts = starts.now; ends = ends.now }
+
 -- the table that is left in columns lent to be filled
-abbrev pub table_left : Passed → Passed → Passed → Passed → Passed → Passed → DeckTable
-table_left kinds marks ids numbers starts ends = table_given kinds.exit marks.exit ids.exit numbers.exit starts.exit ends.exit
+abbrev pub table_left : PassedLent → PassedLent → PassedLent → PassedLent → PassedLent → PassedLent → DeckTable
+table_left kinds marks ids numbers starts ends = table_lent kinds.exit marks.exit ids.exit numbers.exit starts.exit ends.exit
 
 -- a column: one field of the records given, then zeros
 abbrev pub column : (ℕ → ℕ) → List ℕ → List ℕ

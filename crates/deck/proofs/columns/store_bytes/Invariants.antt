@@ -1,0 +1,13 @@
+use Prim.Native.Nat.{◌+◌, ◌*◌, ◌-◌, ◌≤◌}
+use mathlib.Core.Path.{◌≡◌}
+use mathlib.Core.List.{map}
+use lib.ListN.{length}
+use Rattle.common.proofs.Filling.{front}
+use Rattle.common.specs.Little.{at1}
+use Rattle.deck.proofs.columns.store_bytes.Given as goal
+
+abbrev pub invariant-loop-i : goal.invariant-loop-i
+invariant-loop-i l = (l.i ≤ length l.order) × (l.out ≡ front (map (λ j. at1 l.d (16 * j + l.k)) l.order) 4096 l.i)
+
+abbrev pub decreases-loop-i : goal.decreases-loop-i
+decreases-loop-i l = length l.order - l.i
