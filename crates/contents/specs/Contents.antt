@@ -2,12 +2,12 @@
 use Rattle.std.specs.Prelude.{ℕ, cond, List, [], ◌∷◌, map, length, take, drop, ltb, ◌≡◌}
 use Rattle.common.specs.Flag.{flag}
 use Rattle.common.specs.Lists.{concat}
-use Rattle.common.specs.Slices.{Passed}
 use Rattle.common.specs.Stored.{stored}
 use Rattle.transcript.specs.declared.Strand.{Strand}
 use Rattle.transcript.specs.declared.Strand.TheVariants.{Plus, Minus}
 use Rattle.transcript.specs.declared.TranscriptModel.{TranscriptModel}
 use Rattle.transcript.specs.Transcript.{Transcript, cds_start, cds_end, has_bounds}
+use Rattle.deck.specs.Lent.{PassedLent}
 use Rattle.deck.specs.declared.DeckAnswer.{DeckAnswer}
 use Rattle.deck.specs.declared.DeckAnswer.TheVariants.{Accepted, Refused}
 use Rattle.deck.specs.Deck.{read_deck, deck_transcripts}
@@ -85,15 +85,15 @@ abbrev pub bases_of : Transcript → List ℕ
 bases_of t = t.selenocysteine
 
 -- numbers stand at the front of a lent list, whose rest stays
-abbrev pub Front : List ℕ → Passed → Type 0
+abbrev pub Front : List ℕ → PassedLent → Type 0
 Front numbers out = out.exit.now ≡ stored out.entry.now 0 numbers
 
 -- a list of the chosen transcript stands there; without one nothing changes
-abbrev pub Put : List Transcript → (Transcript → List ℕ) → Passed → Type 0
+abbrev pub Put : List Transcript → (Transcript → List ℕ) → PassedLent → Type 0
 Put ts list out = Front (concat (map list ts)) out
 
 -- all of it: scalars; exon starts and ends; segment phases, exon indexes, starts and ends; selenocysteine bases
-abbrev pub Stored : List Transcript → Passed → Passed → Passed → Passed → Passed → Passed → Passed → Passed → Type 0
+abbrev pub Stored : List Transcript → PassedLent → PassedLent → PassedLent → PassedLent → PassedLent → PassedLent → PassedLent → PassedLent → Type 0
 Stored ts scalars starts ends phases indexes firsts lasts bases =
     Put ts scalars_of scalars × Put ts exon_starts starts × Put ts exon_ends ends × Put ts segment_phases phases × Put ts segment_exons indexes
     × Put ts segment_starts firsts × Put ts segment_ends lasts × Put ts bases_of bases
