@@ -1,7 +1,7 @@
 // The index of a table.
 ghost use Rattle.std.specs.Prelude.{◌≡◌};
 ghost use Rattle.deck.specs.code.Table.{is_kind, table_given, table_was_given};
-ghost use Rattle.pieces.specs.code.TableIndex.{AllAdmitted, empty_index, table_index, index_given, index_left};
+ghost use Rattle.pieces.specs.code.TableIndex.{AllAdmitted, empty_index, table_index, index_lent, index_left};
 
 use crate::row::index_row;
 use deck::rows::rows_at;
@@ -33,7 +33,7 @@ pub(crate) fn index_table(
     sums: &mut [u32; 4096],
 ) -> usize
     requires all_admitted { AllAdmitted (table_given kinds marks ids numbers starts ends) }
-    requires sums_value { index_given 0 rows short exons bounds segments bases sums ≡ empty_index }
+    requires sums_value { index_lent 0 rows short exons bounds segments bases sums ≡ empty_index }
     ensures { let t = table_was_given kinds marks ids numbers starts ends in
         index_left result rows short exons bounds segments bases sums ≡ table_index t }
 {

@@ -2,8 +2,8 @@
 ghost use Rattle.std.specs.Prelude.{◌≡◌, ◌||◌};
 ghost use Rattle.listing.specs.WindowFile.{bad_window_file, bad_call_file};
 ghost use Rattle.listing.specs.Listing.{opening_by};
-ghost use Rattle.deck.specs.code.Table.{table_given, empty_table};
-ghost use Rattle.pieces.specs.code.TableIndex.{index_given, empty_index};
+ghost use Rattle.deck.specs.code.Table.{table_lent, empty_table};
+ghost use Rattle.pieces.specs.code.TableIndex.{index_lent, empty_index};
 ghost use Rattle.pieces.specs.code.Opening.{opened, opened_left};
 
 use crate::Opened;
@@ -59,8 +59,8 @@ pub fn open_listing(
     bases: &mut [u16; 4096],
     sums: &mut [u32; 4096],
 ) -> Opened
-    requires ends_value { table_given kinds marks ids numbers starts ends ≡ empty_table }
-    requires sums_value { index_given 0 rows short exons bounds segments bases sums ≡ empty_index }
+    requires ends_value { table_lent kinds marks ids numbers starts ends ≡ empty_table }
+    requires sums_value { index_lent 0 rows short exons bounds segments bases sums ≡ empty_index }
     ensures { let o = opened_left result kinds marks ids numbers starts ends rows short exons bounds segments bases sums in
         o ≡ opened deck.now window.now calls.now }
 {

@@ -1,13 +1,14 @@
 -- An opened listing: what deck, window file and calls are judged to be, the deck's table and its index.
 use Rattle.std.specs.Prelude.{ℕ, List}
 use denote.Triple.Both.{Both}
-use Rattle.common.specs.Slices.{Slice, Passed}
+use Rattle.common.specs.Slices.{Slice}
+use Rattle.deck.specs.Lent.{PassedLent}
 use Rattle.deck.specs.code.Table.{DeckTable, table_given, table_left, deck_table}
 use Rattle.listing.specs.declared.Opening.{Opening}
 use Rattle.listing.specs.declared.Opening.TheVariants.{Listing, Refused}
 use Rattle.listing.specs.Listing.{opening}
 use Rattle.pieces.specs.declared.Opened.{Opened}
-use Rattle.pieces.specs.code.TableIndex.{TableIndex, Marks, empty_index, index_given, index_left, table_index}
+use Rattle.pieces.specs.code.TableIndex.{TableIndex, Marks, LentMarks, empty_index, index_given, index_left, table_index}
 
 pub record OpenedListing : Type 0 where
   pub opening : Opening
@@ -35,8 +36,8 @@ opened_given judged kinds marks ids numbers starts ends count rows short exons b
   index = index_given count rows short exons bounds segments bases sums;
 }
 
-abbrev pub opened_left : Opened → Passed → Passed → Passed → Passed → Passed → Passed
-    → Passed → Both Marks Marks → Passed → Passed → Passed → Passed → Passed → OpenedListing
+abbrev pub opened_left : Opened → PassedLent → PassedLent → PassedLent → PassedLent → PassedLent → PassedLent
+    → PassedLent → Both LentMarks LentMarks → PassedLent → PassedLent → PassedLent → PassedLent → PassedLent → OpenedListing
 opened_left o kinds marks ids numbers starts ends rows short exons bounds segments bases sums = record {
   opening = o.opening;
   table = table_left kinds marks ids numbers starts ends;

@@ -1,9 +1,9 @@
 -- What is computed once for the transcripts of a table. By the transcript's place among them: its row, whether it has a short
 -- intron, and where its parts end; from its row on the cumulative lengths of its exons and of its CDS.
 use Rattle.std.specs.Prelude.{ℕ, suc, ◌≡◌, Bool, false, cond, List, [], ◌∷◌, map, set, replicate, eqb}
-use Rattle.std.specs.Borrow.{Bor}
+use Rattle.std.specs.Borrow.{Bor, MutBor}
 use denote.Triple.Both.{Both}
-use Rattle.common.specs.Slices.{Slice, Passed}
+use Rattle.common.specs.Slices.{Slice}
 use Rattle.common.specs.Lists.{any}
 use Rattle.common.specs.Stored.{stored}
 use Rattle.transcript.specs.Transcript.{Transcript}
@@ -13,6 +13,7 @@ use Rattle.transcript.specs.Admission.{admission}
 use Rattle.footprint.specs.ShortIntron.{is_frameshift_gap}
 use Rattle.locate.specs.Index.{cumulative}
 use Rattle.deck.specs.declared.rows.Rows.{Rows}
+use Rattle.deck.specs.Lent.{Lent, PassedLent}
 use Rattle.deck.specs.code.Table.{DeckTable, rows_at, transcript_at, transcript_rows}
 
 pub record TableIndex : Type 0 where
@@ -27,6 +28,9 @@ pub record TableIndex : Type 0 where
 
 abbrev pub Marks : Type 0
 Marks = Bor (List Bool)
+
+abbrev pub LentMarks : Type 0
+LentMarks = MutBor (List Bool)
 
 -- the transcripts at these rows are admitted
 abbrev pub Admits : DeckTable → List ℕ → Type 0
@@ -85,7 +89,7 @@ empty_index = record {
   sums = replicate 4096 0;
 }
 
--- the index whose columns are given, as a `requires` names them, and that is left in columns lent to be filled
+-- the index whose columns are given, as a `requires` names them
 abbrev pub index_given : ℕ → Slice → Marks → Slice → Slice → Slice → Slice → Slice → TableIndex
 index_given count rows short exons bounds segments bases sums = record {
   count = count;
@@ -98,9 +102,22 @@ index_given count rows short exons bounds segments bases sums = record {
   sums = sums.now;
 }
 
-abbrev pub index_left : ℕ → Passed → Both Marks Marks → Passed → Passed → Passed → Passed → Passed → TableIndex
+-- the index in columns lent to be filled, as a `requires` names them, and that is left in them
+abbrev pub index_lent : ℕ → Lent → LentMarks → Lent → Lent → Lent → Lent → Lent → TableIndex
+index_lent count rows short exons bounds segments bases sums = record {
+  count = count;
+  rows = rows.now;
+  short = short.now;
+  exons = exons.now;
+  bounds = bounds.now;
+  segments = segments.now;
+  bases = bases.now;
+  sums = sums.now;
+}
+
+abbrev pub index_left : ℕ → PassedLent → Both LentMarks LentMarks → PassedLent → PassedLent → PassedLent → PassedLent → PassedLent → TableIndex
 index_left count rows short exons bounds segments bases sums =
-    index_given count rows.exit short.exit exons.exit bounds.exit segments.exit bases.exit sums.exit
+    index_lent count rows.exit short.exit exons.exit bounds.exit segments.exit bases.exit sums.exit
 
 -- the index of a table
 abbrev pub table_index : DeckTable → TableIndex

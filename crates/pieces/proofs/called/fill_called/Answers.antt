@@ -1,0 +1,87 @@
+use Prim.Native.Nat.{◌-◌}
+use mathlib.Core.Path.{◌∙◌}
+use native.Mathlib.Omega.{arith}
+use lib.ListN.{length}
+use borrow.Rule.Slice.PartMut.{same_len_mid}
+use Rattle.consequence.specs.Window.{Window}
+use Rattle.deck.specs.code.Table.{DeckTable}
+use Rattle.pieces.specs.code.TableIndex.{TableIndex}
+use Rattle.pieces.proofs.Filling.{filling_none, filling_length, filling_low, filling_end}
+use Rattle.pieces.proofs.Entries.{steps_end, entry_put, entry_left}
+use Rattle.pieces.proofs.called.fill_called.Invariants.{steps}
+use Rattle.pieces.proofs.called.fill_called.Goals as goal
+use Rattle.pieces.proofs.called.fill_called.Goals.{Start}
+
+abbrev table : Start → DeckTable
+table b = record {
+  kinds = b.args.kinds.now;
+  marks = b.args.marks.now;
+  ids = b.args.ids.now;
+  numbers = b.args.numbers.now;
+  starts = b.args.starts.now;
+  ends = b.args.ends.now;
+}
+
+abbrev index : Start → TableIndex
+index b = record {
+  count = b.args.count;
+  rows = b.args.rows.now;
+  short = b.args.short.now;
+  exons = b.args.exons.now;
+  bounds = b.args.bounds.now;
+  segments = b.args.segments.now;
+  bases = b.args.bases.now;
+  sums = b.args.sums.now;
+}
+
+abbrev window : Start → Window
+window b = record { chromosome = b.args.window_chromosome; first = b.args.window_first; bytes = b.args.window.now }
+
+pub loop-entry-init : goal.loop-entry-init
+loop-entry-init c = let a = c.args in filling_none a.out.now (steps (table (goal.at.loop-entry-init c).Start) (window (goal.at.loop-entry-init c).Start) a.number a.call a.cursor.at a.cursor.entry)
+
+pub slice_bounds-write_entry-count : goal.slice_bounds-write_entry-count
+slice_bounds-write_entry-count c = filling_low c.loop-entry.invariant
+
+pub slice_bounds-write_entry-start : goal.slice_bounds-write_entry-start
+slice_bounds-write_entry-start c = let h = filling_low c.loop-entry.invariant in omega arith
+
+pub write_entry-written-requires : goal.write_entry-written-requires
+write_entry-written-requires c = record { fact_1 = c.requires.fact_1; fact_2 = c.requires.fact_2; fact_3 = omega arith; fact_4 = c.requires.fact_3 }
+
+pub shape_of-out-in_default : goal.shape_of-out-in_default
+shape_of-out-in_default c =
+    let l = c.loop-entry in
+    let e = c.write_entry-written in
+    same_len_mid l.filled (length l.out - l.filled) l.out e.new.out e.auto.out ∙ filling_length l.invariant
+
+pub returns-in_default : goal.returns-in_default
+returns-in_default c =
+    let l = c.loop-entry in
+    let e = c.write_entry-written in
+    entry_left (table (goal.at.returns-in_default c).Start) (index (goal.at.returns-in_default c).Start) c.requires.fact_2 (window (goal.at.returns-in_default c).Start) c.args.number c.args.call c.args.cursor.at l.entry (omega arith) l.invariant e.ensures.0 e.ensures.1 c.in_default.is
+
+pub overflow_add-filled : goal.overflow_add-filled
+overflow_add-filled c =
+    let l = c.loop-entry in
+    let e = c.write_entry-written in
+    let f = entry_put (table (goal.at.overflow_add-filled c).Start) (index (goal.at.overflow_add-filled c).Start) c.requires.fact_2 (window (goal.at.overflow_add-filled c).Start) c.args.number c.args.call c.args.cursor.at l.entry (omega arith) l.invariant e.ensures.0 e.ensures.1 c.in-Bytes.is in
+    let g = filling_low f in
+    let h = same_len_mid l.filled (length l.out - l.filled) l.out e.new.out e.auto.out in
+    let k = c.well_formed.1.1.1.1.1.1.1.1.1.1.1.1.1.1.1.1.1.1.1.1.1.0 in
+    let j = filling_length l.invariant in
+    omega arith
+
+pub loop-entry-preserved : goal.loop-entry-preserved
+loop-entry-preserved c =
+    let l = c.loop-entry in
+    let e = c.write_entry-written in
+    entry_put (table (goal.at.loop-entry-preserved c).Start) (index (goal.at.loop-entry-preserved c).Start) c.requires.fact_2 (window (goal.at.loop-entry-preserved c).Start) c.args.number c.args.call c.args.cursor.at l.entry (omega arith) l.invariant e.ensures.0 e.ensures.1 c.in-Bytes.is
+
+pub shape_of-out : goal.shape_of-out
+shape_of-out c = filling_length c.loop-entry.invariant
+
+pub returns : goal.returns
+returns c =
+    let l = c.loop-entry in
+    filling_end l.invariant (steps_end (table (goal.at.returns c).Start) (index (goal.at.returns c).Start) c.requires.fact_2 (window (goal.at.returns c).Start) c.args.number c.args.call c.args.cursor.at l.entry (omega arith))

@@ -1,0 +1,15 @@
+use Prim.Native.Nat.{◌+◌, ◌-◌, ◌≤◌}
+use lib.ListN.{length}
+use Rattle.deck.specs.code.Table.{table_transcripts}
+use Rattle.listing.specs.WindowFile.{window_of}
+use Rattle.listing.specs.Pieces.{pack}
+use Rattle.pieces.proofs.Filling.{Filling}
+use Rattle.pieces.proofs.CallLines.{lines_from}
+use Rattle.pieces.proofs.line.fill_lines.Given as goal
+
+abbrev pub invariant-loop-at : goal.invariant-loop-at
+invariant-loop-at l = Filling l.initial.out l.out l.filled (lines_from (table_transcripts (record { kinds = l.kinds; marks = l.marks; ids = l.ids; numbers = l.numbers; starts = l.starts; ends = l.ends })) (window_of l.window) l.calls l.number l.at l.entry) (pack (length l.initial.out) (lines_from (table_transcripts (record { kinds = l.kinds; marks = l.marks; ids = l.ids; numbers = l.numbers; starts = l.starts; ends = l.ends })) (window_of l.window) l.calls l.initial.number l.initial.at l.initial.entry))
+    × (l.number + (length l.calls - l.at) ≤ 65537)
+
+abbrev pub decreases-loop-at : goal.decreases-loop-at
+decreases-loop-at l = length l.calls - l.at
