@@ -2,8 +2,7 @@
 ghost use Rattle.std.specs.Prelude.{◌≡◌};
 
 // Raised whenever a struct, a parameter or the meaning of a number changes.
-#[unsafe(no_mangle)]
-pub extern "C" fn vareffect_abi() -> u64
+pub fn vareffect_abi() -> u64
     ensures { result ≡ 2 }
 {
     2

@@ -10,8 +10,7 @@ use transcript::question::refusal_number;
 use words::{VareffectModel, model_of};
 
 // The number of the transcript's refusal, 1 to 13, or 0.
-#[unsafe(no_mangle)]
-pub extern "C" fn vareffect_admit(
+pub fn vareffect_admit(
     model: VareffectModel,
     exon_starts: &[u64],
     exon_ends: &[u64],

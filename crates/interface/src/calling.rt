@@ -8,8 +8,7 @@ use answers::{answer_call, answer_calls};
 use words::{VareffectCall, VareffectModel, VareffectWindow, call_of, model_of};
 
 // The answer to a call as 20 numbers, or the number of the refusal.
-#[unsafe(no_mangle)]
-pub extern "C" fn vareffect_call(
+pub fn vareffect_call(
     window: VareffectWindow,
     bases: &[u8],
     call: VareffectCall,
@@ -45,8 +44,7 @@ pub extern "C" fn vareffect_call(
 }
 
 // For each call its answer as 20 numbers; 1 where the lists differ in length or `out` does not have 20 elements for each.
-#[unsafe(no_mangle)]
-pub extern "C" fn vareffect_calls(
+pub fn vareffect_calls(
     window: VareffectWindow,
     bases: &[u8],
     chromosomes: &[u16],

@@ -43,16 +43,14 @@ fn content_outcome(content: Content) -> VareffectOutcome
 }
 
 // The number of a deck's refusal and the record at fault; 0 and 0 where the deck is accepted.
-#[unsafe(no_mangle)]
-pub extern "C" fn vareffect_check_deck(bytes: &[u8]) -> VareffectOutcome
+pub fn vareffect_check_deck(bytes: &[u8]) -> VareffectOutcome
     ensures { result ≡ deck_outcome (read_deck bytes.now) }
 {
     deck_outcome(check_deck(bytes))
 }
 
 // How many transcripts the deck has. Their ids are stored at the front of `ids` as far as it reaches.
-#[unsafe(no_mangle)]
-pub extern "C" fn vareffect_deck_ids(bytes: &[u8], ids: &mut [u32]) -> VareffectOutcome
+pub fn vareffect_deck_ids(bytes: &[u8], ids: &mut [u32]) -> VareffectOutcome
     ensures value { result ≡ content_outcome (deck_content bytes.now) }
     ensures ids_after { ids.new ≡ stored ids.old 0 (deck_ids bytes.now) }
 {
@@ -61,8 +59,7 @@ pub extern "C" fn vareffect_deck_ids(bytes: &[u8], ids: &mut [u32]) -> Vareffect
 
 // The transcript at a place in chain order, and how many the deck has; 25 where none stands there. Its scalars and lists are stored
 // at the front of those lent, whose rest stays.
-#[unsafe(no_mangle)]
-pub extern "C" fn vareffect_deck_transcript(
+pub fn vareffect_deck_transcript(
     bytes: &[u8],
     place: usize,
     scalars: &mut [u64; 12],

@@ -8,8 +8,7 @@ use words::{VareffectModel, model_of};
 
 // The answers about [start, end) as 7 numbers: 0, kind and distance of the flank, whether an end lies in a short intron and its
 // index, donor and acceptor; or the number of the refusal.
-#[unsafe(no_mangle)]
-pub extern "C" fn vareffect_interval(
+pub fn vareffect_interval(
     chromosome: u16,
     start: u64,
     end: u64,

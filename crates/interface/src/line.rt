@@ -8,8 +8,7 @@ use answers::answer_line;
 use words::{VareffectCall, VareffectModel, VareffectOutcome, VareffectWindow, call_of, model_of};
 
 // The line, newline included, at the buffer's start: number 0 and its length; 28 and 0 where it does not fit.
-#[unsafe(no_mangle)]
-pub extern "C" fn vareffect_line(
+pub fn vareffect_line(
     number: u64,
     window: VareffectWindow,
     bases: &[u8],

@@ -56,8 +56,7 @@ fn move_on(cursor: &mut [usize; 3], piece: Piece)
 
 // The next lines of the listing, as many as fit into `out`, and their length. The cursor begins as zeros and is moved on; its third
 // word is 1 once all is listed. 28 where not even one line fits.
-#[unsafe(no_mangle)]
-pub extern "C" fn vareffect_list(
+pub fn vareffect_list(
     deck: &[u8],
     window: &[u8],
     calls: &[u8],

@@ -8,8 +8,7 @@ use answers::{answer_place, answer_places};
 use words::{VareffectModel, model_of};
 
 // The place of [start, end) as 8 numbers, or the number of the refusal.
-#[unsafe(no_mangle)]
-pub extern "C" fn vareffect_place(
+pub fn vareffect_place(
     chromosome: u16,
     start: u64,
     end: u64,
@@ -43,8 +42,7 @@ pub extern "C" fn vareffect_place(
 }
 
 // For each position p the place of [p, p + 1) as 8 numbers; 1 where `out` does not have 8 elements for each.
-#[unsafe(no_mangle)]
-pub extern "C" fn vareffect_places(
+pub fn vareffect_places(
     chromosome: u16,
     positions: &[u64],
     model: VareffectModel,

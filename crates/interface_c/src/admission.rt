@@ -1,0 +1,35 @@
+// Whether a transcript is admitted.
+ghost use Rattle.std.specs.Prelude.{◌≡◌};
+ghost use Rattle.transcript.specs.Transcript.{was_given};
+ghost use Rattle.transcript.specs.Admission.{admission_of};
+ghost use Rattle.transcript.specs.Numbers.{admission_number};
+ghost use Rattle.words.specs.Model.{model_of};
+
+use words::VareffectModel;
+
+// The number of the transcript's refusal, 1 to 13, or 0.
+#[unsafe(no_mangle)]
+pub extern "C" fn vareffect_admit(
+    model: VareffectModel,
+    exon_starts: &[u64],
+    exon_ends: &[u64],
+    seg_phases: &[u8],
+    seg_exons: &[u16],
+    seg_starts: &[u64],
+    seg_ends: &[u64],
+    selenocysteine: &[u64],
+) -> u8
+    ensures { let t = was_given (model_of model) exon_starts exon_ends seg_phases seg_exons seg_starts seg_ends selenocysteine in
+        result ≡ admission_number (admission_of t) }
+{
+    interface::vareffect_admit(
+        model,
+        exon_starts,
+        exon_ends,
+        seg_phases,
+        seg_exons,
+        seg_starts,
+        seg_ends,
+        selenocysteine,
+    )
+}

@@ -1,0 +1,85 @@
+// The answer to a call and the answers to many, for callers outside.
+ghost use Rattle.transcript.specs.Transcript.{was_given};
+ghost use Rattle.words.specs.Model.{model_of};
+ghost use Rattle.words.specs.Call.{call_of, window_of};
+ghost use Rattle.answers.specs.Calls.{CallAnswered, CallsAnswered};
+
+use words::{VareffectCall, VareffectModel, VareffectWindow};
+
+// The answer to a call as 20 numbers, or the number of the refusal.
+#[unsafe(no_mangle)]
+pub extern "C" fn vareffect_call(
+    window: VareffectWindow,
+    bases: &[u8],
+    call: VareffectCall,
+    model: VareffectModel,
+    exon_starts: &[u64],
+    exon_ends: &[u64],
+    seg_phases: &[u8],
+    seg_exons: &[u16],
+    seg_starts: &[u64],
+    seg_ends: &[u64],
+    selenocysteine: &[u64],
+    out: &mut [i64; 20],
+) -> u8
+    ensures { let t = was_given (model_of model) exon_starts exon_ends seg_phases seg_exons seg_starts seg_ends selenocysteine in
+        let w = window_of window bases in
+        CallAnswered t w (call_of call) out.old out.new result }
+{
+    interface::vareffect_call(
+        window,
+        bases,
+        call,
+        model,
+        exon_starts,
+        exon_ends,
+        seg_phases,
+        seg_exons,
+        seg_starts,
+        seg_ends,
+        selenocysteine,
+        out,
+    )
+}
+
+// For each call its answer as 20 numbers; 1 where the lists differ in length or `out` does not have 20 elements for each.
+#[unsafe(no_mangle)]
+pub extern "C" fn vareffect_calls(
+    window: VareffectWindow,
+    bases: &[u8],
+    chromosomes: &[u16],
+    positions: &[u64],
+    refs: &[u8],
+    alts: &[u8],
+    model: VareffectModel,
+    exon_starts: &[u64],
+    exon_ends: &[u64],
+    seg_phases: &[u8],
+    seg_exons: &[u16],
+    seg_starts: &[u64],
+    seg_ends: &[u64],
+    selenocysteine: &[u64],
+    out: &mut [i64],
+) -> u8
+    ensures { let t = was_given (model_of model) exon_starts exon_ends seg_phases seg_exons seg_starts seg_ends selenocysteine in
+        let w = window_of window bases in
+        CallsAnswered t w chromosomes.now positions.now refs.now alts.now out.old out.new result }
+{
+    interface::vareffect_calls(
+        window,
+        bases,
+        chromosomes,
+        positions,
+        refs,
+        alts,
+        model,
+        exon_starts,
+        exon_ends,
+        seg_phases,
+        seg_exons,
+        seg_starts,
+        seg_ends,
+        selenocysteine,
+        out,
+    )
+}

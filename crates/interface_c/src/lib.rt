@@ -1,0 +1,11 @@
+// The exports of `interface` for C: each calls the function of its name there and states its clauses again.
+#![tactic(auto)]
+
+mod abi;
+mod admission;
+mod calling;
+mod decks;
+mod interval;
+mod line;
+mod list;
+mod placing;
