@@ -7,7 +7,8 @@
 ghost use Rattle.std.specs.Prelude.{◌<◌, ◌≤◌};
 
 use codon::{Codon, GeneticCode, build_alt_codon, translate_altered_codon, translate_codon};
-use libc::STDOUT_FILENO;
+use console::{print, print_decimal, read_full};
+use std::io::Read;
 
 const BASES: [u8; 4] = *b"ACGT";
 
@@ -44,7 +45,7 @@ fn published_letter(rows: &[u8; 384], c: Codon) -> u8 {
 }
 
 // 1 where the codon of row i has another letter, which is then written, else 0.
-fn codon_differs(rows: &[u8; 384], code: GeneticCode, i: usize) -> u64
+fn codon_differs(rt: &impl Print, rows: &[u8; 384], code: GeneticCode, i: usize) -> u64
     requires { i < 64 }
     ensures { result ≤ 1 }
 {
@@ -57,12 +58,12 @@ fn codon_differs(rows: &[u8; 384], code: GeneticCode, i: usize) -> u64
     let line = [
         c.first, c.second, c.third, b' ', published, b' ', letter, b'\n',
     ];
-    io::write_all(STDOUT_FILENO, &line);
+    print(rt, &line);
     1
 }
 
 // 1 where the codon of row i with a base put in at a place has another letter, which is then written, else 0.
-fn altered_differs(rows: &[u8; 384], code: GeneticCode, i: usize, place: u8, base: u8) -> u64
+fn altered_differs(rt: &impl Print, rows: &[u8; 384], code: GeneticCode, i: usize, place: u8, base: u8) -> u64
     requires { (i < 64) × (place < 3) }
     ensures { result ≤ 1 }
 {
@@ -86,57 +87,58 @@ fn altered_differs(rows: &[u8; 384], code: GeneticCode, i: usize, place: u8, bas
         letter,
         b'\n',
     ];
-    io::write_all(STDOUT_FILENO, &line);
+    print(rt, &line);
     1
 }
 
 // How many codons of the first n rows have another letter.
-fn codon_differences(rows: &[u8; 384], code: GeneticCode, n: usize) -> u64
+fn codon_differences(rt: &impl Print, rows: &[u8; 384], code: GeneticCode, n: usize) -> u64
     requires { n ≤ 64 }
 {
     let mut count: u64 = 0;
     let mut i = 0;
     while i < n {
-        count += codon_differs(rows, code, i);
+        count += codon_differs(rt, rows, code, i);
         i += 1;
     }
     count
 }
 
 // How many of their codons with one base replaced, 12 for each, have another letter.
-fn altered_differences(rows: &[u8; 384], code: GeneticCode, n: usize) -> u64
+fn altered_differences(rt: &impl Print, rows: &[u8; 384], code: GeneticCode, n: usize) -> u64
     requires { n ≤ 64 }
 {
     let mut count: u64 = 0;
     let mut k = 0;
     while k < n * 12 {
-        count += altered_differs(rows, code, k / 12, (k / 4 % 3) as u8, BASES[k % 4]);
+        count += altered_differs(rt, rows, code, k / 12, (k / 4 % 3) as u8, BASES[k % 4]);
         k += 1;
     }
     count
 }
 
-fn write_count(table: u64, n: usize, what: &[u8], differ: u64) {
-    io::write_all(STDOUT_FILENO, b"table ");
-    io::print_decimal(STDOUT_FILENO, table);
-    io::write_all(STDOUT_FILENO, b": ");
-    io::print_decimal(STDOUT_FILENO, n as u64);
-    io::write_all(STDOUT_FILENO, what);
-    io::print_decimal(STDOUT_FILENO, differ);
-    io::write_all(STDOUT_FILENO, b" differ\n");
+fn write_count(rt: &impl Print, table: u64, n: usize, what: &[u8], differ: u64) {
+    print(rt, b"table ");
+    print_decimal(rt, table);
+    print(rt, b": ");
+    print_decimal(rt, n as u64);
+    print(rt, what);
+    print_decimal(rt, differ);
+    print(rt, b" differ\n");
 }
 
 // A code against the next 64 rows, those of the table of that number.
-fn check_table(table: u64, code: GeneticCode) {
+fn check_table(rt: &impl Print, input: &mut impl Read, table: u64, code: GeneticCode) {
     let mut rows = [0u8; 384];
-    let n = io::read_full(0, &mut rows) / 6;
-    let codons = codon_differences(&rows, code, n);
-    write_count(table, n, b" codons, ", codons);
-    let altered = altered_differences(&rows, code, n);
-    write_count(table, n * 12, b" altered codons, ", altered);
+    let n = read_full(input, &mut rows) / 6;
+    let codons = codon_differences(rt, &rows, code, n);
+    write_count(rt, table, n, b" codons, ", codons);
+    let altered = altered_differences(rt, &rows, code, n);
+    write_count(rt, table, n * 12, b" altered codons, ", altered);
 }
 
-fn main() {
-    check_table(1, GeneticCode::Standard);
-    check_table(2, GeneticCode::VertebrateMitochondrial);
+fn main(rt: HostRuntime) {
+    let mut input = rt.stdin();
+    check_table(&rt, &mut input, 1, GeneticCode::Standard);
+    check_table(&rt, &mut input, 2, GeneticCode::VertebrateMitochondrial);
 }

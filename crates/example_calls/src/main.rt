@@ -2,7 +2,6 @@
 #![tactic(auto)]
 
 use consequence::{Call, Called, annotate_snv};
-use libc::STDOUT_FILENO;
 use lines::Written;
 use lines::answer::write_answer;
 use lines::line::write_refusal;
@@ -60,14 +59,14 @@ fn length_of(w: Written) -> usize {
     }
 }
 
-fn print(out: &[u8], n: usize) {
+fn print(rt: &impl Print, out: &[u8], n: usize) {
     if n <= out.len() {
-        io::write_all(STDOUT_FILENO, &out[..n]);
+        console::print(rt, &out[..n]);
     }
 }
 
 // The line of the call of that number.
-fn show(number: u64, position: u64, ref_base: u8, alt_base: u8) {
+fn show(rt: &impl Print, number: u64, position: u64, ref_base: u8, alt_base: u8) {
     let called = t1(Call {
         chromosome: 1,
         position,
@@ -78,17 +77,17 @@ fn show(number: u64, position: u64, ref_base: u8, alt_base: u8) {
     match called {
         Called::Answered(a) => {
             let w = write_answer(&mut out, number, 7, a);
-            print(&out, length_of(w));
+            print(rt, &out, length_of(w));
         }
         Called::Refused(n) => {
             let w = write_refusal(&mut out, number, 7, n as u64);
-            print(&out, length_of(w));
+            print(rt, &out, length_of(w));
         }
     }
 }
 
-fn main() {
-    show(1, 111, b'T', b'C');
-    show(2, 129, b'A', b'C');
-    show(3, 130, b'A', b'G');
+fn main(rt: HostRuntime) {
+    show(&rt, 1, 111, b'T', b'C');
+    show(&rt, 2, 129, b'A', b'C');
+    show(&rt, 3, 130, b'A', b'G');
 }

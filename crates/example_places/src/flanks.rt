@@ -47,27 +47,28 @@ fn beside_four(x: FourExons, start: u64, end: u64) -> Flanked {
 }
 
 // The line of an insertion at p.
-pub(crate) fn insertion(x: TwoExons, p: u64) {
-    print(b"insertion at");
-    number(p);
-    print(b" ");
-    show_flanked(beside_two(x, 1, p, p));
-    print(b"\n");
+pub(crate) fn insertion(rt: &impl Print, x: TwoExons, p: u64) {
+    print(rt, b"insertion at");
+    number(rt, p);
+    print(rt, b" ");
+    show_flanked(rt, beside_two(x, 1, p, p));
+    print(rt, b"\n");
 }
 
 // The line of a flank, with the interval as chromosome:start-end.
-fn line(strand: Strand, chromosome: u16, start: u64, end: u64, flanked: Flanked) {
-    print(b"flank");
-    strand_word(strand);
-    decimal(chromosome as u64);
-    print(b":");
-    interval(start, end);
-    show_flanked(flanked);
-    print(b"\n");
+fn line(rt: &impl Print, strand: Strand, chromosome: u16, start: u64, end: u64, flanked: Flanked) {
+    print(rt, b"flank");
+    strand_word(rt, strand);
+    decimal(rt, chromosome as u64);
+    print(rt, b":");
+    interval(rt, start, end);
+    show_flanked(rt, flanked);
+    print(rt, b"\n");
 }
 
-fn flank(chromosome: u16, start: u64, end: u64) {
+fn flank(rt: &impl Print, chromosome: u16, start: u64, end: u64) {
     line(
+        rt,
         Strand::Plus,
         chromosome,
         start,
@@ -76,11 +77,11 @@ fn flank(chromosome: u16, start: u64, end: u64) {
     );
 }
 
-pub(crate) fn show() {
-    flank(1, 5189, 5190);
-    flank(1, 100, 100);
-    flank(1, 99, 100);
-    flank(1, 189, 190);
-    flank(2, 190, 189);
-    line(Strand::Minus, 1, 99, 100, beside_four(MINUS, 99, 100));
+pub(crate) fn show(rt: &impl Print) {
+    flank(rt, 1, 5189, 5190);
+    flank(rt, 1, 100, 100);
+    flank(rt, 1, 99, 100);
+    flank(rt, 1, 189, 190);
+    flank(rt, 2, 190, 189);
+    line(rt, Strand::Minus, 1, 99, 100, beside_four(MINUS, 99, 100));
 }

@@ -5,14 +5,14 @@ use footprint::{Endpoint, Spilled, SpliceSpill, exonic_splice_spill, frameshift_
 use transcript::Strand;
 
 // The line's first words: what is asked, the strand and the interval.
-fn asked(question: &[u8], strand: Strand, start: u64, end: u64) {
-    print(question);
-    strand_word(strand);
-    interval(start, end);
+fn asked(rt: &impl Print, question: &[u8], strand: Strand, start: u64, end: u64) {
+    print(rt, question);
+    strand_word(rt, strand);
+    interval(rt, start, end);
 }
 
 // The line of the short intron that holds an end of [start, end).
-fn short_intron(x: FourExons, start: u64, end: u64) {
+fn short_intron(rt: &impl Print, x: FourExons, start: u64, end: u64) {
     let strand = x.strand;
     let starts = x.starts;
     let ends = x.ends;
@@ -29,29 +29,29 @@ fn short_intron(x: FourExons, start: u64, end: u64) {
         &[],
         &[],
     );
-    asked(b"short intron", strand, start, end);
+    asked(rt, b"short intron", strand, start, end);
     match found {
-        Endpoint::Intron(i) => decimal(i as u64),
-        Endpoint::Nowhere => print(b"none"),
-        Endpoint::Refused(n) => refused(n),
+        Endpoint::Intron(i) => decimal(rt, i as u64),
+        Endpoint::Nowhere => print(rt, b"none"),
+        Endpoint::Refused(n) => refused(rt, n),
     }
-    print(b"\n");
+    print(rt, b"\n");
 }
 
-fn show_windows(hit: SpliceSpill) {
+fn show_windows(rt: &impl Print, hit: SpliceSpill) {
     if hit.donor && hit.acceptor {
-        print(b"both");
+        print(rt, b"both");
     } else if hit.donor {
-        print(b"donor");
+        print(rt, b"donor");
     } else if hit.acceptor {
-        print(b"acceptor");
+        print(rt, b"acceptor");
     } else {
-        print(b"none");
+        print(rt, b"none");
     }
 }
 
 // The line of the splice windows of short introns that [start, end) hits.
-fn spill(x: FourExons, start: u64, end: u64) {
+fn spill(rt: &impl Print, x: FourExons, start: u64, end: u64) {
     let strand = x.strand;
     let starts = x.starts;
     let ends = x.ends;
@@ -68,28 +68,28 @@ fn spill(x: FourExons, start: u64, end: u64) {
         &[],
         &[],
     );
-    asked(b"spill", strand, start, end);
+    asked(rt, b"spill", strand, start, end);
     match spilled {
-        Spilled::Spill(hit) => show_windows(hit),
-        Spilled::Refused(n) => refused(n),
+        Spilled::Spill(hit) => show_windows(rt, hit),
+        Spilled::Refused(n) => refused(rt, n),
     }
-    print(b"\n");
+    print(rt, b"\n");
 }
 
-pub(crate) fn show() {
-    short_intron(PLUS, 114, 128);
-    short_intron(PLUS, 140, 142);
-    short_intron(PLUS, 130, 141);
-    short_intron(PLUS, 139, 142);
-    short_intron(PLUS, 140, 163);
-    short_intron(PLUS, 151, 151);
-    short_intron(PLUS, 150, 150);
-    short_intron(MINUS, 151, 151);
-    spill(PLUS, 141, 142);
-    spill(PLUS, 139, 140);
-    spill(PLUS, 140, 141);
-    spill(PLUS, 139, 142);
-    spill(PLUS, 149, 150);
-    spill(MINUS, 141, 142);
-    spill(MINUS, 139, 140);
+pub(crate) fn show(rt: &impl Print) {
+    short_intron(rt, PLUS, 114, 128);
+    short_intron(rt, PLUS, 140, 142);
+    short_intron(rt, PLUS, 130, 141);
+    short_intron(rt, PLUS, 139, 142);
+    short_intron(rt, PLUS, 140, 163);
+    short_intron(rt, PLUS, 151, 151);
+    short_intron(rt, PLUS, 150, 150);
+    short_intron(rt, MINUS, 151, 151);
+    spill(rt, PLUS, 141, 142);
+    spill(rt, PLUS, 139, 140);
+    spill(rt, PLUS, 140, 141);
+    spill(rt, PLUS, 139, 142);
+    spill(rt, PLUS, 149, 150);
+    spill(rt, MINUS, 141, 142);
+    spill(rt, MINUS, 139, 140);
 }

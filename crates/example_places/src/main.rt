@@ -9,9 +9,9 @@ mod shown;
 mod text;
 mod transcripts;
 
-fn main() {
-    places::show();
-    admissions::show();
-    introns::show();
-    flanks::show();
+fn main(rt: HostRuntime) {
+    places::show(&rt);
+    admissions::show(&rt);
+    introns::show(&rt);
+    flanks::show(&rt);
 }

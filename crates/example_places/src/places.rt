@@ -8,7 +8,7 @@ use transcript::CdsBounds;
 use transcript::question::QUERY_LIMIT;
 
 // The line of the base at p.
-fn place(x: TwoExons, p: u64) {
+fn place(rt: &impl Print, x: TwoExons, p: u64) {
     let starts = x.exon_starts;
     let ends = x.exon_ends;
     let phases = x.phases;
@@ -31,31 +31,31 @@ fn place(x: TwoExons, p: u64) {
         &seg_ends,
         &[],
     );
-    decimal(p);
-    print(b" ");
+    decimal(rt, p);
+    print(rt, b" ");
     match located {
-        Located::At(found) => show_place(found),
-        Located::Refused(n) => refused(n),
+        Located::At(found) => show_place(rt, found),
+        Located::Refused(n) => refused(rt, n),
     }
-    print(b"\n");
+    print(rt, b"\n");
 }
 
-pub(crate) fn show() {
-    place(T1, 99);
-    place(T1, 109);
-    place(T1, 110);
-    place(T1, 126);
-    place(T1, 127);
-    place(T1, 131);
-    place(T1, 132);
-    place(T1, 142);
-    place(T1, 143);
-    place(T1, 158);
-    place(T1, 170);
-    place(T1, 5189);
-    place(T1, 5190);
-    insertion(T1, 5189);
-    insertion(T1, 5190);
+pub(crate) fn show(rt: &impl Print) {
+    place(rt, T1, 99);
+    place(rt, T1, 109);
+    place(rt, T1, 110);
+    place(rt, T1, 126);
+    place(rt, T1, 127);
+    place(rt, T1, 131);
+    place(rt, T1, 132);
+    place(rt, T1, 142);
+    place(rt, T1, 143);
+    place(rt, T1, 158);
+    place(rt, T1, 170);
+    place(rt, T1, 5189);
+    place(rt, T1, 5190);
+    insertion(rt, T1, 5189);
+    insertion(rt, T1, 5190);
     let short = TwoExons {
         tx_end: 160,
         cds: CdsBounds::Both {
@@ -68,11 +68,11 @@ pub(crate) fn show() {
         seg_ends: [130, 150],
         ..T1
     };
-    place(short, 136);
+    place(rt, short, 136);
     let padded = TwoExons {
         complete: false,
         phases: [1, 1],
         ..T1
     };
-    place(padded, 110);
+    place(rt, padded, 110);
 }

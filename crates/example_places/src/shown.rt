@@ -4,76 +4,76 @@ use footprint::{Flank, Flanked};
 use locate::VariantLocation;
 
 // A name with a count.
-fn counted(name: &[u8], n: u64) {
-    print(name);
-    number(n);
+fn counted(rt: &impl Print, name: &[u8], n: u64) {
+    print(rt, name);
+    number(rt, n);
 }
 
 // A name with a distance or an offset.
-fn measured(name: &[u8], n: i64) {
-    print(name);
-    signed(n);
+fn measured(rt: &impl Print, name: &[u8], n: i64) {
+    print(rt, name);
+    signed(rt, n);
 }
 
 // A coding base: its offset, its codon, its place in the codon, and its mark.
-fn coding_base(offset: u32, codon: u32, position: u8, is_splice_region: bool) {
-    counted(b"CdsExon", offset as u64);
-    number(codon as u64);
-    number(position as u64);
+fn coding_base(rt: &impl Print, offset: u32, codon: u32, position: u8, is_splice_region: bool) {
+    counted(rt, b"CdsExon", offset as u64);
+    number(rt, codon as u64);
+    number(rt, position as u64);
     if is_splice_region {
-        print(b" mark");
+        print(rt, b" mark");
     }
 }
 
 // The place's name with what document 01 says of it.
-pub(crate) fn show_place(place: VariantLocation) {
+pub(crate) fn show_place(rt: &impl Print, place: VariantLocation) {
     match place {
-        VariantLocation::Upstream { distance } => counted(b"Upstream", distance),
-        VariantLocation::Downstream { distance } => counted(b"Downstream", distance),
-        VariantLocation::Distal => print(b"Distal"),
+        VariantLocation::Upstream { distance } => counted(rt, b"Upstream", distance),
+        VariantLocation::Downstream { distance } => counted(rt, b"Downstream", distance),
+        VariantLocation::Distal => print(rt, b"Distal"),
         VariantLocation::FivePrimeUtr {
             offset_from_cds_start,
             ..
-        } => measured(b"FivePrimeUtr", offset_from_cds_start),
+        } => measured(rt, b"FivePrimeUtr", offset_from_cds_start),
         VariantLocation::CdsExon {
             cds_offset,
             codon_number,
             codon_position,
             is_splice_region,
             ..
-        } => coding_base(cds_offset.0, codon_number, codon_position, is_splice_region),
+        } => coding_base(rt, cds_offset.0, codon_number, codon_position, is_splice_region),
         VariantLocation::ThreePrimeUtr {
             offset_from_cds_end,
             ..
-        } => measured(b"ThreePrimeUtr", offset_from_cds_end),
-        VariantLocation::SpliceDonor { offset, .. } => counted(b"SpliceDonor", offset as u64),
-        VariantLocation::SpliceAcceptor { offset, .. } => counted(b"SpliceAcceptor", offset as u64),
-        VariantLocation::SpliceRegion { distance, .. } => measured(b"SpliceRegion", distance),
+        } => measured(rt, b"ThreePrimeUtr", offset_from_cds_end),
+        VariantLocation::SpliceDonor { offset, .. } => counted(rt, b"SpliceDonor", offset as u64),
+        VariantLocation::SpliceAcceptor { offset, .. } => counted(rt, b"SpliceAcceptor", offset as u64),
+        VariantLocation::SpliceRegion { distance, .. } => measured(rt, b"SpliceRegion", distance),
         VariantLocation::Intron {
             distance_to_nearest_exon,
             ..
-        } => measured(b"Intron", distance_to_nearest_exon),
+        } => measured(rt, b"Intron", distance_to_nearest_exon),
         VariantLocation::FrameshiftIntron {
             distance_to_nearest_exon,
             ..
-        } => measured(b"FrameshiftIntron", distance_to_nearest_exon),
-        VariantLocation::NonCodingExon { .. } => print(b"NonCodingExon"),
-        VariantLocation::NonCodingIntron { .. } => print(b"NonCodingIntron"),
+        } => measured(rt, b"FrameshiftIntron", distance_to_nearest_exon),
+        VariantLocation::NonCodingExon { .. } => print(rt, b"NonCodingExon"),
+        VariantLocation::NonCodingIntron { .. } => print(rt, b"NonCodingIntron"),
     }
 }
 
-pub(crate) fn show_flanked(flanked: Flanked) {
+pub(crate) fn show_flanked(rt: &impl Print, flanked: Flanked) {
     match flanked {
-        Flanked::Beside(flank) => show_flank(flank),
-        Flanked::Refused(n) => refused(n),
+        Flanked::Beside(flank) => show_flank(rt, flank),
+        Flanked::Refused(n) => refused(rt, n),
     }
 }
 
-fn show_flank(flank: Flank) {
+fn show_flank(rt: &impl Print, flank: Flank) {
     match flank {
-        Flank::Overlaps => print(b"Overlaps"),
-        Flank::Upstream(d) => counted(b"Upstream", d),
-        Flank::Downstream(d) => counted(b"Downstream", d),
-        Flank::Far => print(b"Far"),
+        Flank::Overlaps => print(rt, b"Overlaps"),
+        Flank::Upstream(d) => counted(rt, b"Upstream", d),
+        Flank::Downstream(d) => counted(rt, b"Downstream", d),
+        Flank::Far => print(rt, b"Far"),
     }
 }

@@ -1,21 +1,20 @@
 // Words and numbers on standard output.
 ghost use Rattle.std.specs.Prelude.{◌≡◌, nat_abs};
 
-use io::print_decimal;
-use libc::STDOUT_FILENO;
+use console::print_decimal;
 use transcript::Strand;
 
-pub(crate) fn print(text: &[u8]) {
-    io::write_all(STDOUT_FILENO, text);
+pub(crate) fn print(rt: &impl Print, text: &[u8]) {
+    console::print(rt, text);
 }
 
-pub(crate) fn decimal(n: u64) {
-    print_decimal(STDOUT_FILENO, n);
+pub(crate) fn decimal(rt: &impl Print, n: u64) {
+    print_decimal(rt, n);
 }
 
-pub(crate) fn number(n: u64) {
-    print(b" ");
-    decimal(n);
+pub(crate) fn number(rt: &impl Print, n: u64) {
+    print(rt, b" ");
+    decimal(rt, n);
 }
 
 fn magnitude(n: i64) -> u64
@@ -25,31 +24,31 @@ fn magnitude(n: i64) -> u64
 }
 
 // A number with its sign, + for 0.
-pub(crate) fn signed(n: i64) {
+pub(crate) fn signed(rt: &impl Print, n: i64) {
     if n < 0 {
-        print(b" -");
+        print(rt, b" -");
     } else {
-        print(b" +");
+        print(rt, b" +");
     }
-    decimal(magnitude(n));
+    decimal(rt, magnitude(n));
 }
 
-pub(crate) fn refused(n: u8) {
-    print(b"refused");
-    number(n as u64);
+pub(crate) fn refused(rt: &impl Print, n: u8) {
+    print(rt, b"refused");
+    number(rt, n as u64);
 }
 
-pub(crate) fn strand_word(strand: Strand) {
+pub(crate) fn strand_word(rt: &impl Print, strand: Strand) {
     match strand {
-        Strand::Plus => print(b" plus "),
-        Strand::Minus => print(b" minus "),
+        Strand::Plus => print(rt, b" plus "),
+        Strand::Minus => print(rt, b" minus "),
     }
 }
 
 // An interval as start-end.
-pub(crate) fn interval(start: u64, end: u64) {
-    decimal(start);
-    print(b"-");
-    decimal(end);
-    print(b" ");
+pub(crate) fn interval(rt: &impl Print, start: u64, end: u64) {
+    decimal(rt, start);
+    print(rt, b"-");
+    decimal(rt, end);
+    print(rt, b" ");
 }

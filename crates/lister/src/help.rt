@@ -36,9 +36,10 @@ fn starts_help(word: &[u8]) -> bool {
 }
 
 // What it reads and prints.
-fn print_usage(fd: i32, name: &[u8]) -> bool {
+fn print_usage(to: &impl Print, errors: &impl Print, name: &[u8]) -> bool {
     write_all(
-        fd,
+        to,
+        errors,
         name,
         b"\
 lister: where single-base calls fall in transcripts, and what follows from them\n\
@@ -63,9 +64,10 @@ taken as empty, and a failed write ends the run; standard error says why.\n",
 }
 
 // Numbers that end the run.
-fn print_deck(fd: i32, name: &[u8]) -> bool {
+fn print_deck(to: &impl Print, errors: &impl Print, name: &[u8]) -> bool {
     write_all(
-        fd,
+        to,
+        errors,
         name,
         b"\
 \n\
@@ -91,9 +93,10 @@ A deck is refused by\n\
 }
 
 // Numbers of single calls and of the two other files.
-fn print_calls(fd: i32, name: &[u8]) -> bool {
+fn print_calls(to: &impl Print, errors: &impl Print, name: &[u8]) -> bool {
     write_all(
-        fd,
+        to,
+        errors,
         name,
         b"\
 \n\
@@ -112,10 +115,10 @@ A call is refused by\n\
 }
 
 // Prints all of it. After a write that failed nothing more is written.
-pub(crate) fn print(fd: i32, name: &[u8]) {
-    if print_usage(fd, name) {
-        if print_deck(fd, name) {
-            print_calls(fd, name);
+pub(crate) fn print(to: &impl Print, errors: &impl Print, name: &[u8]) {
+    if print_usage(to, errors, name) {
+        if print_deck(to, errors, name) {
+            print_calls(to, errors, name);
         }
     }
 }

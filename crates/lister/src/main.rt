@@ -7,37 +7,56 @@ mod help;
 mod printing;
 mod write;
 
-use files::{read_file, read_to_end, room};
-use libc::{STDERR_FILENO, STDIN_FILENO, STDOUT_FILENO};
-use printing::print_listing;
+ghost use Rattle.std.specs.Prelude.{◌≤◌, length};
 
-fn list(deck_name: &[u8], window_name: &[u8]) {
+use console::buffer;
+use files::{read_file, read_to_end, room};
+use printing::print_listing;
+use std::env::{Env, FillError};
+
+fn list(rt: &HostRuntime, deck_name: &[u8], window_name: &[u8]) {
     let mut deck = room();
     let mut window = room();
     let mut calls = room();
-    let d = read_file(deck_name, &mut deck);
-    let w = read_file(window_name, &mut window);
-    let c = read_to_end(STDIN_FILENO, b"standard input", &mut calls);
-    print_listing(&deck[..d], &window[..w], &calls[..c]);
+    let errors = rt.stderr();
+    let d = read_file(rt, &errors, deck_name, &mut deck);
+    let w = read_file(rt, &errors, window_name, &mut window);
+    let c = read_to_end(&mut rt.stdin(), &errors, b"standard input", &mut calls);
+    print_listing(&rt.stdout(), &errors, &deck[..d], &window[..w], &calls[..c]);
 }
 
-fn main() {
-    let count = os::arg_count();
-    if count == 1 {
-        list(b"deck.bin", b"window.bin");
+// Whether an argument of that number was given.
+fn is_given(rt: &impl Env, i: usize) -> bool {
+    match rt.arg(i, &mut buffer()) {
+        Ok(_) => true,
+        Err(FillError::TooLong) => true,
+        Err(FillError::NotPresent) => false,
+    }
+}
+
+// The argument of that number at the start of `into`, and its length: 0 where it is missing or too long.
+fn argument(rt: &impl Env, i: usize, into: &mut [u8]) -> usize
+    ensures { result ≤ length into.new }
+{
+    rt.arg(i, into).unwrap_or(0)
+}
+
+fn main(rt: HostRuntime) {
+    if !is_given(&rt, 1) {
+        list(&rt, b"deck.bin", b"window.bin");
         return;
     }
-    let mut first = io::buffer();
-    let n = os::arg(1, &mut first);
+    let mut first = buffer();
+    let n = argument(&rt, 1, &mut first);
     if help::is_help(&first[..n]) {
-        help::print(STDOUT_FILENO, b"standard output");
+        help::print(&rt.stdout(), &rt.stderr(), b"standard output");
         return;
     }
-    if count != 3 {
-        help::print(STDERR_FILENO, b"standard error");
+    if !is_given(&rt, 2) || is_given(&rt, 3) {
+        help::print(&rt.stderr(), &rt.stderr(), b"standard error");
         return;
     }
-    let mut second = io::buffer();
-    let m = os::arg(2, &mut second);
-    list(&first[..n], &second[..m]);
+    let mut second = buffer();
+    let m = argument(&rt, 2, &mut second);
+    list(&rt, &first[..n], &second[..m]);
 }

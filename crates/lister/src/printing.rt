@@ -3,16 +3,18 @@ ghost use Rattle.std.specs.Prelude.{◌≡◌};
 ghost use Rattle.pieces.specs.code.Opening.{opened, opened_given};
 
 use crate::write::write_all;
-use libc::STDOUT_FILENO;
+use console::large_buffer;
 use listing::{Opening, Piece, first};
 use pieces::{next_piece, open_listing};
 
-fn print(bytes: &[u8]) -> bool {
-    write_all(STDOUT_FILENO, b"standard output", bytes)
+fn print(to: &impl Print, errors: &impl Print, bytes: &[u8]) -> bool {
+    write_all(to, errors, b"standard output", bytes)
 }
 
 // The pieces of an opened listing. The buffer holds the longest line, so none is refused.
 fn print_pieces(
+    to: &impl Print,
+    errors: &impl Print,
     deck: &[u8],
     window: &[u8],
     calls: &[u8],
@@ -35,7 +37,7 @@ fn print_pieces(
     requires { let o = opened_given opening kinds marks ids numbers starts ends count rows short exons bounds segments bases sums in
         o ≡ opened deck.now window.now calls.now }
 {
-    let mut out = io::large_buffer();
+    let mut out = large_buffer();
     let mut cursor = first();
     loop {
         let piece = next_piece(
@@ -44,13 +46,13 @@ fn print_pieces(
         );
         match piece {
             Piece::Lines { length, next } => {
-                if !print(&out[..length]) {
+                if !print(to, errors, &out[..length]) {
                     return;
                 }
                 cursor = next;
             }
             Piece::Last { length } => {
-                print(&out[..length]);
+                print(to, errors, &out[..length]);
                 return;
             }
             Piece::Refused(_) => return,
@@ -59,7 +61,7 @@ fn print_pieces(
 }
 
 // The whole listing of a deck, a window file and the calls.
-pub(crate) fn print_listing(deck: &[u8], window: &[u8], calls: &[u8]) {
+pub(crate) fn print_listing(to: &impl Print, errors: &impl Print, deck: &[u8], window: &[u8], calls: &[u8]) {
     let mut kinds = [0u8; 4096];
     let mut marks = [0u8; 4096];
     let mut ids = [0u32; 4096];
@@ -93,6 +95,8 @@ pub(crate) fn print_listing(deck: &[u8], window: &[u8], calls: &[u8]) {
     );
     let opening = opened.opening;
     print_pieces(
+        to,
+        errors,
         deck,
         window,
         calls,

@@ -1,38 +1,47 @@
 // Writing. What cannot be written is said on standard error.
-ghost use Rattle.std.specs.Prelude.{◌-◌, ◌≤◌, length};
-ghost use Rattle.libc.specs.Io.{Moved};
+ghost use Rattle.std.specs.Prelude.{◌-◌, ◌≤◌, length, IfOk};
 
-use libc::STDERR_FILENO;
+use console::print;
+use std::io;
 
 // One write, of the bytes from `at` on.
-fn write_at(fd: i32, bytes: &[u8], at: usize) -> isize
+fn write_at(to: &impl Print, bytes: &[u8], at: usize) -> io::Result<usize>
     requires { at ≤ length bytes.now }
-    ensures { Moved (length bytes.now - at) result }
+    ensures { IfOk result (λ n. n ≤ length bytes.now - at) }
 {
-    libc::write(fd, &bytes[at..])
+    to.write_some(&bytes[at..])
 }
 
-// Such a write leaves no error to name.
-fn say_none_taken(name: &[u8]) {
-    io::write_all(STDERR_FILENO, name);
-    io::write_all(STDERR_FILENO, b": no byte was taken\n");
+// A line on what failed, under the name of the file.
+pub(crate) fn say_failed(errors: &impl Print, name: &[u8], error: io::Error) {
+    print(errors, name);
+    print(errors, b": ");
+    let _ = errors.println(error);
+}
+
+// A write that takes none leaves no error to name.
+fn say_none_taken(errors: &impl Print, name: &[u8]) {
+    print(errors, name);
+    print(errors, b": no byte was taken\n");
 }
 
 // Writes the bytes. Answers whether all are written: a write that fails or takes none is the last, and is said under the name.
-pub(crate) fn write_all(fd: i32, name: &[u8], bytes: &[u8]) -> bool {
+pub(crate) fn write_all(to: &impl Print, errors: &impl Print, name: &[u8], bytes: &[u8]) -> bool {
     let mut done = 0;
     while done < bytes.len() {
-        let put = write_at(fd, bytes, done);
-        if put < 0 {
-            os::fail(name);
-            return false;
+        match write_at(to, bytes, done) {
+            Err(e) => {
+                say_failed(errors, name, e);
+                return false;
+            }
+            Ok(n) => {
+                if n == 0 {
+                    say_none_taken(errors, name);
+                    return false;
+                }
+                done += n;
+            }
         }
-        let n = io::count(put, bytes);
-        if n == 0 {
-            say_none_taken(name);
-            return false;
-        }
-        done += n;
     }
     true
 }

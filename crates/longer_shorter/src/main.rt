@@ -4,14 +4,13 @@
 #![tactic(auto)]
 
 use consequence::{Call, Called, annotate_snv};
-use libc::STDOUT_FILENO;
 use lines::Written;
 use lines::answer::write_answer;
 use lines::line::write_refusal;
 use transcript::{CdsBounds, Strand, TranscriptModel};
 
 // The chromosome of two transcripts and their ids.
-#[derive(Drop)]
+#[derive(Clone, Copy)]
 struct Pair {
     chromosome: u16,
     shorter: u32,
@@ -95,58 +94,58 @@ fn length_of(w: Written) -> usize {
     }
 }
 
-fn print(out: &[u8], n: usize) {
+fn print(rt: &impl Print, out: &[u8], n: usize) {
     if n <= out.len() {
-        io::write_all(STDOUT_FILENO, &out[..n]);
+        console::print(rt, &out[..n]);
     }
 }
 
 // The line of an answer.
-fn show(number: u64, id: u32, called: Called) {
+fn show(rt: &impl Print, number: u64, id: u32, called: Called) {
     let mut out = [0u8; 256];
     match called {
         Called::Answered(a) => {
             let w = write_answer(&mut out, number, id as u64, a);
-            print(&out, length_of(w));
+            print(rt, &out, length_of(w));
         }
         Called::Refused(n) => {
             let w = write_refusal(&mut out, number, id as u64, n as u64);
-            print(&out, length_of(w));
+            print(rt, &out, length_of(w));
         }
     }
 }
 
 // The two answers to one call.
-fn compare(pair: Pair, number: u64, position: u64, ref_base: u8, alt_base: u8) {
+fn compare(rt: &impl Print, pair: Pair, number: u64, position: u64, ref_base: u8, alt_base: u8) {
     let call = Call {
         chromosome: pair.chromosome,
         position,
         ref_base,
         alt_base,
     };
-    show(number, pair.shorter, shorter(pair.shorter, call));
-    show(number, pair.longer, longer(pair.longer, call));
+    show(rt, number, pair.shorter, shorter(pair.shorter, call));
+    show(rt, number, pair.longer, longer(pair.longer, call));
 }
 
-fn main() {
+fn main(rt: HostRuntime) {
     let pair = Pair {
         chromosome: 1,
         shorter: 7,
         longer: 8,
     };
-    compare(pair, 1, 101, b'A', b'C');
-    compare(pair, 2, 111, b'T', b'C');
-    compare(pair, 3, 129, b'A', b'C');
-    compare(pair, 4, 143, b'A', b'G');
-    compare(pair, 5, 189, b'A', b'G');
-    compare(pair, 6, 120, b'A', b'A');
+    compare(&rt, pair, 1, 101, b'A', b'C');
+    compare(&rt, pair, 2, 111, b'T', b'C');
+    compare(&rt, pair, 3, 129, b'A', b'C');
+    compare(&rt, pair, 4, 143, b'A', b'G');
+    compare(&rt, pair, 5, 189, b'A', b'G');
+    compare(&rt, pair, 6, 120, b'A', b'A');
     let mitochondrial = Pair {
         chromosome: 25,
         shorter: 27,
         longer: 28,
     };
-    compare(mitochondrial, 7, 112, b'G', b'A');
-    compare(mitochondrial, 8, 117, b'A', b'G');
-    compare(mitochondrial, 9, 168, b'A', b'G');
-    compare(mitochondrial, 10, 189, b'A', b'G');
+    compare(&rt, mitochondrial, 7, 112, b'G', b'A');
+    compare(&rt, mitochondrial, 8, 117, b'A', b'G');
+    compare(&rt, mitochondrial, 9, 168, b'A', b'G');
+    compare(&rt, mitochondrial, 10, 189, b'A', b'G');
 }

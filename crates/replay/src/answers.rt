@@ -37,6 +37,7 @@ fn is_same(
 
 // 1 where the answer at p differs, which is then written, else 0.
 fn differs(
+    rt: &impl Print,
     b: &[u8],
     p: usize,
     a: Answers,
@@ -55,12 +56,13 @@ fn differs(
     if is_same(b, p, a, t, starts, ends, phases, hosts, froms, tos, bases) {
         return 0;
     }
-    report(b"different", a.kind, t.id, u32_at(b, p));
+    report(rt, b"different", a.kind, t.id, u32_at(b, p));
     1
 }
 
 // All answers of the block.
 fn judge_answers(
+    rt: &impl Print,
     b: &[u8],
     a: Answers,
     t: TranscriptModel,
@@ -81,13 +83,13 @@ fn judge_answers(
     let mut p = a.first;
     let mut i: u64 = 0;
     while i < count {
-        different += differs(b, p, a, t, starts, ends, phases, hosts, froms, tos, bases);
+        different += differs(rt, b, p, a, t, starts, ends, phases, hosts, froms, tos, bases);
         p += step;
         i += 1;
     }
     // An index is compared up to its end.
     if 0 < step && p != b.len() {
-        report(b"not whole", a.kind, t.id, p as u64);
+        report(rt, b"not whole", a.kind, t.id, p as u64);
     }
     Counts {
         compared: i,
@@ -96,7 +98,7 @@ fn judge_answers(
 }
 
 // The block's answers, each against the port's.
-pub(crate) fn judge(kind: u64, b: &[u8]) -> Counts
+pub(crate) fn judge(rt: &impl Print, kind: u64, b: &[u8]) -> Counts
     ensures { (result.compared ≤ 4096) × (result.different ≤ 4096) }
 {
     let h = head_of(b);
@@ -115,6 +117,7 @@ pub(crate) fn judge(kind: u64, b: &[u8]) -> Counts
     let tos = words(b, s + 8, 12, m);
     let bases = words(b, u, 4, k);
     judge_answers(
+        rt,
         b,
         a,
         t,

@@ -2,39 +2,40 @@
 ghost use Rattle.std.specs.Prelude.{◌≤◌, ◌≡◌, length};
 
 use crate::numbers::u32_at;
-use libc::{STDIN_FILENO, STDOUT_FILENO};
+use console::{print, read_full};
+use std::io::Read;
 
 // The length of a block that cannot be judged: 0, and it is written.
-fn cut_off() -> usize
+fn cut_off(rt: &impl Print) -> usize
     ensures { result ≡ 0 }
 {
-    io::write_all(STDOUT_FILENO, b"a block is not whole or too long\n");
+    print(rt, b"a block is not whole or too long\n");
     0
 }
 
 // Reads the next block to the front of `block`, and gives its length, 0 where there is none.
-pub(crate) fn next_block(block: &mut [u8]) -> usize
+pub(crate) fn next_block(rt: &impl Print, input: &mut impl Read, block: &mut [u8]) -> usize
     requires { length block.old ≡ 65536 }
     ensures { (result ≤ 65536) × (length block.new ≡ 65536) }
 {
     let mut size = [0u8; 4];
-    let got = io::read_full(STDIN_FILENO, &mut size);
+    let got = read_full(input, &mut size);
     if got == 0 {
         return 0;
     }
     if got < 4 {
-        return cut_off();
+        return cut_off(rt);
     }
     let n = u32_at(&size, 0) as usize;
     if n == 0 {
-        return cut_off();
+        return cut_off(rt);
     }
     if n > 65536 {
-        return cut_off();
+        return cut_off(rt);
     }
-    let got = io::read_full(STDIN_FILENO, &mut block[..n]);
+    let got = read_full(input, &mut block[..n]);
     if got != n {
-        return cut_off();
+        return cut_off(rt);
     }
     n
 }

@@ -1,7 +1,7 @@
 // Answers compared and answers that differ, by kind of block.
 ghost use Rattle.std.specs.Prelude.{ℕ, ◌+◌, ◌*◌, ◌≤◌, ◌≡◌, length, get_or};
 
-use libc::STDOUT_FILENO;
+use console::{print, print_decimal};
 
 #[derive(Drop)]
 pub(crate) struct Counts {
@@ -25,41 +25,41 @@ pub(crate) fn raise(counts: &mut [u64; 4], kind: u64, n: u64, blocks: u64)
 }
 
 // What the answers of a kind are called.
-fn print_kind(kind: u64) -> bool {
+fn print_kind(rt: &impl Print, kind: u64) -> bool {
     match kind {
-        0 => io::write_all(STDOUT_FILENO, b"transcripts"),
-        1 => io::write_all(STDOUT_FILENO, b"places"),
-        2 => io::write_all(STDOUT_FILENO, b"intervals"),
-        _ => io::write_all(STDOUT_FILENO, b"calls"),
+        0 => print(rt, b"transcripts"),
+        1 => print(rt, b"places"),
+        2 => print(rt, b"intervals"),
+        _ => print(rt, b"calls"),
     }
 }
 
-fn print_counts(kind: u64, compared: u64, different: u64) {
-    io::print_decimal(STDOUT_FILENO, compared);
-    io::write_all(STDOUT_FILENO, b" ");
-    print_kind(kind);
-    io::write_all(STDOUT_FILENO, b", ");
-    io::print_decimal(STDOUT_FILENO, different);
-    io::write_all(STDOUT_FILENO, b" different\n");
+fn print_counts(rt: &impl Print, kind: u64, compared: u64, different: u64) {
+    print_decimal(rt, compared);
+    print(rt, b" ");
+    print_kind(rt, kind);
+    print(rt, b", ");
+    print_decimal(rt, different);
+    print(rt, b" different\n");
 }
 
-pub(crate) fn print_totals(compared: [u64; 4], different: [u64; 4]) {
-    print_counts(0, compared[0], different[0]);
-    print_counts(1, compared[1], different[1]);
-    print_counts(2, compared[2], different[2]);
-    print_counts(3, compared[3], different[3]);
+pub(crate) fn print_totals(rt: &impl Print, compared: [u64; 4], different: [u64; 4]) {
+    print_counts(rt, 0, compared[0], different[0]);
+    print_counts(rt, 1, compared[1], different[1]);
+    print_counts(rt, 2, compared[2], different[2]);
+    print_counts(rt, 3, compared[3], different[3]);
 }
 
 // Writes what is wrong with an answer: its kind, its transcript and, but for an index, a number of its own.
-pub(crate) fn report(what: &[u8], kind: u64, id: u32, number: u64) {
-    io::write_all(STDOUT_FILENO, what);
-    io::write_all(STDOUT_FILENO, b": ");
-    print_kind(kind);
-    io::write_all(STDOUT_FILENO, b" ");
-    io::print_decimal(STDOUT_FILENO, id as u64);
+pub(crate) fn report(rt: &impl Print, what: &[u8], kind: u64, id: u32, number: u64) {
+    print(rt, what);
+    print(rt, b": ");
+    print_kind(rt, kind);
+    print(rt, b" ");
+    print_decimal(rt, id as u64);
     if kind != 0 {
-        io::write_all(STDOUT_FILENO, b" ");
-        io::print_decimal(STDOUT_FILENO, number);
+        print(rt, b" ");
+        print_decimal(rt, number);
     }
-    io::write_all(STDOUT_FILENO, b"\n");
+    print(rt, b"\n");
 }

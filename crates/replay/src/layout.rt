@@ -5,7 +5,7 @@ use crate::numbers::count_at;
 
 // Answers of a kind (0 an index, 1 places, 2 intervals, 3 calls): how many stand from `first` on, `step` bytes apart, and where the
 // transcript ends. An index is one answer, and its step is 0.
-#[derive(Drop)]
+#[derive(Clone, Copy)]
 pub(crate) struct Answers {
     pub kind: u64,
     pub at: usize,

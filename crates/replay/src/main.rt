@@ -20,18 +20,19 @@ ghost use Rattle.std.specs.Prelude.{◌≤◌};
 
 use answers::judge;
 use blocks::next_block;
+use console::{large_buffer, print};
 use counts::{Counts, print_totals, raise};
-use libc::STDOUT_FILENO;
 use numbers::wide;
+use std::io::Read;
 
 // The counts of a block: the kinds of block part here.
-fn judge_block(kind: u64, b: &[u8]) -> Counts
+fn judge_block(rt: &impl Print, kind: u64, b: &[u8]) -> Counts
     ensures { (result.compared ≤ 4096) × (result.different ≤ 4096) }
 {
     if kind < 4 {
-        return judge(kind, b);
+        return judge(rt, kind, b);
     }
-    io::write_all(STDOUT_FILENO, b"a block is of an unknown kind\n");
+    print(rt, b"a block is of an unknown kind\n");
     Counts {
         compared: 0,
         different: 0,
@@ -39,25 +40,25 @@ fn judge_block(kind: u64, b: &[u8]) -> Counts
 }
 
 // Reads up to the list's end; the bound on the blocks, which no list reaches, is one on the counts.
-fn judge_all() {
-    let mut block = io::large_buffer();
+fn judge_all(rt: &impl Print, input: &mut impl Read) {
+    let mut block = large_buffer();
     let mut compared = [0u64; 4];
     let mut different = [0u64; 4];
     let mut blocks: u64 = 0;
     while blocks < 1_000_000_000 {
-        let n = next_block(&mut block);
+        let n = next_block(rt, input, &mut block);
         if n == 0 {
             break;
         }
         let kind = wide(block[0]);
-        let c = judge_block(kind, &block[1..n]);
+        let c = judge_block(rt, kind, &block[1..n]);
         raise(&mut compared, kind, c.compared, blocks);
         raise(&mut different, kind, c.different, blocks);
         blocks += 1;
     }
-    print_totals(compared, different);
+    print_totals(rt, compared, different);
 }
 
-fn main() {
-    judge_all();
+fn main(rt: HostRuntime) {
+    judge_all(&rt, &mut rt.stdin());
 }

@@ -1,5 +1,6 @@
 // Comparing a piece with the stored bytes.
 use crate::stored::is_next;
+use std::io::Read;
 
 // How far a case is compared: the stored bytes that are left, and whether nothing differs.
 #[derive(Drop)]
@@ -25,13 +26,13 @@ pub(crate) fn ended(c: Compared) -> Compared {
 }
 
 // Compares a piece with as many stored bytes.
-pub(crate) fn compare_piece(bytes: &[u8], c: Compared) -> Compared {
+pub(crate) fn compare_piece(input: &mut impl Read, bytes: &[u8], c: Compared) -> Compared {
     let n = bytes.len();
     if c.left < n {
         return differs(c);
     }
     Compared {
         left: c.left - n,
-        same: is_next(bytes),
+        same: is_next(input, bytes),
     }
 }

@@ -11,39 +11,40 @@ mod whole;
 ghost use Rattle.std.specs.Prelude.{◌≤◌, ◌<◌};
 
 use cases::{Outcome, cut_off, no_case, replay_case};
-use libc::{STDIN_FILENO, STDOUT_FILENO};
+use console::{print, print_decimal, read_full};
+use std::io::Read;
 
-fn print_totals(cases: u64, bytes: u64, different: u64) {
-    io::print_decimal(STDOUT_FILENO, cases);
-    io::write_all(STDOUT_FILENO, b" listings of ");
-    io::print_decimal(STDOUT_FILENO, bytes);
-    io::write_all(STDOUT_FILENO, b" bytes, ");
-    io::print_decimal(STDOUT_FILENO, different);
-    io::write_all(STDOUT_FILENO, b" different\n");
+fn print_totals(rt: &impl Print, cases: u64, bytes: u64, different: u64) {
+    print_decimal(rt, cases);
+    print(rt, b" listings of ");
+    print_decimal(rt, bytes);
+    print(rt, b" bytes, ");
+    print_decimal(rt, different);
+    print(rt, b" different\n");
 }
 
 // The next case, which has the number given; none where the list ends.
-fn next_case(number: u64) -> Outcome
+fn next_case(rt: &impl Print, input: &mut impl Read, number: u64) -> Outcome
     ensures { (result.bytes < 4294967296) × (result.different ≤ 1) }
 {
     let mut sizes = [0u8; 16];
-    let got = io::read_full(STDIN_FILENO, &mut sizes);
+    let got = read_full(input, &mut sizes);
     if got == 0 {
         return no_case();
     }
     if got < 16 {
-        return cut_off(number);
+        return cut_off(rt, number);
     }
-    replay_case(number, &sizes)
+    replay_case(rt, input, number, &sizes)
 }
 
 // Goes up to the list's end; the bound on the cases, which no list reaches, is one on the counts.
-fn replay_all() {
+fn replay_all(rt: &impl Print, input: &mut impl Read) {
     let mut cases: u64 = 0;
     let mut bytes: u64 = 0;
     let mut different: u64 = 0;
     while cases < 1_000_000_000 {
-        let o = next_case(cases + 1);
+        let o = next_case(rt, input, cases + 1);
         if !o.whole {
             break;
         }
@@ -51,9 +52,9 @@ fn replay_all() {
         bytes += o.bytes;
         different += o.different;
     }
-    print_totals(cases, bytes, different);
+    print_totals(rt, cases, bytes, different);
 }
 
-fn main() {
-    replay_all();
+fn main(rt: HostRuntime) {
+    replay_all(&rt, &mut rt.stdin());
 }

@@ -1,8 +1,9 @@
 // Stored bytes on standard input.
 ghost use Rattle.std.specs.Prelude.{◌≤◌, ◌≡◌, length};
-ghost use Rattle.io.specs.Counts.{IsPrefixLen};
+ghost use Rattle.console.specs.Counts.{IsPrefixLen};
 
-use libc::STDIN_FILENO;
+use console::{buffer, large_buffer, read_full};
+use std::io::Read;
 
 // Room for one byte more than the longest deck, window file or calls of a case.
 pub(crate) fn room() -> [u8; 65553]
@@ -12,21 +13,21 @@ pub(crate) fn room() -> [u8; 65553]
 }
 
 // Reads the next n bytes to the front of `into`, and gives how many it read: none where they do not fit.
-pub(crate) fn read_part(into: &mut [u8], n: usize) -> usize
+pub(crate) fn read_part(input: &mut impl Read, into: &mut [u8], n: usize) -> usize
     ensures prefix_len { IsPrefixLen result into.new }
     ensures upper_bound { result ≤ n }
 {
     if into.len() < n {
         return 0;
     }
-    io::read_full(STDIN_FILENO, &mut into[..n])
+    read_full(input, &mut into[..n])
 }
 
 // Whether the next bytes are those of the line, which has at most 4,096; as many are read.
-pub(crate) fn is_next(line: &[u8]) -> bool {
-    let mut held = io::buffer();
-    let n = read_part(&mut held, line.len());
-    check::same(line, &held[..n])
+pub(crate) fn is_next(input: &mut impl Read, line: &[u8]) -> bool {
+    let mut held = buffer();
+    let n = read_part(input, &mut held, line.len());
+    line == &held[..n]
 }
 
 fn least(a: usize, b: usize) -> usize
@@ -36,11 +37,11 @@ fn least(a: usize, b: usize) -> usize
 }
 
 // Reads n bytes away, in pieces.
-pub(crate) fn skip(n: usize) {
-    let mut piece = io::large_buffer();
+pub(crate) fn skip(input: &mut impl Read, n: usize) {
+    let mut piece = large_buffer();
     let mut left = n;
     while left > 0 {
-        let got = read_part(&mut piece, least(left, 65536));
+        let got = read_part(input, &mut piece, least(left, 65536));
         if got == 0 {
             break;
         }

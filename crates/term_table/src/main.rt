@@ -4,7 +4,7 @@
 
 ghost use Rattle.std.specs.Prelude.{◌≤◌, ◌<◌, length};
 
-use libc::{STDIN_FILENO, STDOUT_FILENO};
+use console::{buffer, print, print_decimal, read_full};
 use names::{name_byte, name_length};
 
 // The byte at i of the last digit of a rank, a space, its name and a newline.
@@ -63,34 +63,34 @@ fn is_line(row: &[u8], rank: u32) -> bool
 }
 
 // 1, and a line.
-fn report(what: &[u8], rank: u32) -> u64
+fn report(rt: &impl Print, what: &[u8], rank: u32) -> u64
     ensures { result ≤ 1 }
 {
-    io::write_all(STDOUT_FILENO, what);
-    io::print_decimal(STDOUT_FILENO, rank as u64);
-    io::write_all(STDOUT_FILENO, b"\n");
+    print(rt, what);
+    print_decimal(rt, rank as u64);
+    print(rt, b"\n");
     1
 }
 
 // 1 where the row is not the line of the rank, which is then written, else 0.
-fn row_differs(row: &[u8], rank: u32) -> u64
+fn row_differs(rt: &impl Print, row: &[u8], rank: u32) -> u64
     requires { rank < 100 }
     ensures { result ≤ 1 }
 {
     if is_line(row, rank) {
         return 0;
     }
-    report(b"different: rank ", rank)
+    report(rt, b"different: rank ", rank)
 }
 
 // 1 where a name of the rank is here, and no row was left for it, else 0.
-fn row_lacks(rank: u32) -> u64
+fn row_lacks(rt: &impl Print, rank: u32) -> u64
     ensures { result ≤ 1 }
 {
     if name_length(rank) == 0 {
         return 0;
     }
-    report(b"no row: rank ", rank)
+    report(rt, b"no row: rank ", rank)
 }
 
 // One past the newline that ends the row at `at`, or the text's end.
@@ -109,7 +109,7 @@ fn row_end(text: &[u8], at: usize) -> usize
 }
 
 // Compares row after row with the line of the next rank, and writes the counts.
-fn compare(text: &[u8]) {
+fn compare(rt: &impl Print, text: &[u8]) {
     let mut rank: u32 = 1;
     let mut differ: u64 = 0;
     let mut at = 0;
@@ -118,19 +118,19 @@ fn compare(text: &[u8]) {
             break;
         }
         let to = row_end(text, at);
-        differ += row_differs(&text[at..to], rank);
+        differ += row_differs(rt, &text[at..to], rank);
         rank += 1;
         at = to;
     }
-    differ += row_lacks(rank);
-    io::print_decimal(STDOUT_FILENO, rank as u64 - 1);
-    io::write_all(STDOUT_FILENO, b" terms, ");
-    io::print_decimal(STDOUT_FILENO, differ);
-    io::write_all(STDOUT_FILENO, b" differ\n");
+    differ += row_lacks(rt, rank);
+    print_decimal(rt, rank as u64 - 1);
+    print(rt, b" terms, ");
+    print_decimal(rt, differ);
+    print(rt, b" differ\n");
 }
 
-fn main() {
-    let mut text = io::buffer();
-    let n = io::read_full(STDIN_FILENO, &mut text);
-    compare(&text[..n]);
+fn main(rt: HostRuntime) {
+    let mut text = buffer();
+    let n = read_full(&mut rt.stdin(), &mut text);
+    compare(&rt, &text[..n]);
 }
