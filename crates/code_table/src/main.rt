@@ -63,7 +63,14 @@ fn codon_differs(rt: &impl Print, rows: &[u8; 384], code: GeneticCode, i: usize)
 }
 
 // 1 where the codon of row i with a base put in at a place has another letter, which is then written, else 0.
-fn altered_differs(rt: &impl Print, rows: &[u8; 384], code: GeneticCode, i: usize, place: u8, base: u8) -> u64
+fn altered_differs(
+    rt: &impl Print,
+    rows: &[u8; 384],
+    code: GeneticCode,
+    i: usize,
+    place: u8,
+    base: u8,
+) -> u64
     requires { (i < 64) × (place < 3) }
     ensures { result ≤ 1 }
 {
