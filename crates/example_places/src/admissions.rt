@@ -34,17 +34,23 @@ fn plain(rt: &impl Print, x: TwoExons) {
 }
 
 fn first_phase(rt: &impl Print, phase: u8) {
-    plain(rt, TwoExons {
-        phases: [phase, 1],
-        ..T1
-    });
+    plain(
+        rt,
+        TwoExons {
+            phases: [phase, 1],
+            ..T1
+        },
+    );
 }
 
 fn second_segment(rt: &impl Print, exon: u16) {
-    plain(rt, TwoExons {
-        seg_exons: [0, exon],
-        ..T1
-    });
+    plain(
+        rt,
+        TwoExons {
+            seg_exons: [0, exon],
+            ..T1
+        },
+    );
 }
 
 fn cds_bounds(rt: &impl Print, cds: CdsBounds) {
@@ -61,14 +67,20 @@ fn both(start: u64, end: u64) -> CdsBounds {
 pub(crate) fn show(rt: &impl Print) {
     admission(rt, T1, &[130, 170], &[111]);
     admission(rt, T1, &[130], &[]);
-    plain(rt, TwoExons {
-        seg_starts: [110, 170],
-        ..T1
-    });
-    plain(rt, TwoExons {
-        strand: Strand::Minus,
-        ..T1
-    });
+    plain(
+        rt,
+        TwoExons {
+            seg_starts: [110, 170],
+            ..T1
+        },
+    );
+    plain(
+        rt,
+        TwoExons {
+            strand: Strand::Minus,
+            ..T1
+        },
+    );
     plain(rt, TwoExons { tx_end: 191, ..T1 });
     cds_bounds(rt, CdsBounds::Neither);
     first_phase(rt, 3);

@@ -41,13 +41,23 @@ pub(crate) fn show_place(rt: &impl Print, place: VariantLocation) {
             codon_position,
             is_splice_region,
             ..
-        } => coding_base(rt, cds_offset.0, codon_number, codon_position, is_splice_region),
+        } => coding_base(
+            rt,
+            cds_offset.0,
+            codon_number,
+            codon_position,
+            is_splice_region,
+        ),
         VariantLocation::ThreePrimeUtr {
             offset_from_cds_end,
             ..
         } => measured(rt, b"ThreePrimeUtr", offset_from_cds_end),
         VariantLocation::SpliceDonor { offset, .. } => counted(rt, b"SpliceDonor", offset as u64),
-        VariantLocation::SpliceAcceptor { offset, .. } => counted(rt, b"SpliceAcceptor", offset as u64),
+        VariantLocation::SpliceAcceptor { offset, .. } => counted(
+            rt,
+            b"SpliceAcceptor",
+            offset as u64,
+        ),
         VariantLocation::SpliceRegion { distance, .. } => measured(rt, b"SpliceRegion", distance),
         VariantLocation::Intron {
             distance_to_nearest_exon,
