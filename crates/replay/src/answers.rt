@@ -83,7 +83,9 @@ fn judge_answers(
     let mut p = a.first;
     let mut i: u64 = 0;
     while i < count {
-        different += differs(rt, b, p, a, t, starts, ends, phases, hosts, froms, tos, bases);
+        different += differs(
+            rt, b, p, a, t, starts, ends, phases, hosts, froms, tos, bases,
+        );
         p += step;
         i += 1;
     }
