@@ -24,7 +24,12 @@ fn read_at(from: &mut impl Read, into: &mut [u8], at: usize) -> io::Result<usize
 
 // The bytes of an open file at the start of `into`, as many as fit. Each read is judged by itself: 0 bytes are the end, after which
 // nothing more is read; after a failure no byte that came before it counts.
-pub(crate) fn read_to_end(from: &mut impl Read, errors: &impl Print, name: &[u8], into: &mut [u8]) -> usize
+pub(crate) fn read_to_end(
+    from: &mut impl Read,
+    errors: &impl Print,
+    name: &[u8],
+    into: &mut [u8],
+) -> usize
     ensures { IsPrefixLen result into.new }
 {
     let mut filled = 0;

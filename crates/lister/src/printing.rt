@@ -61,7 +61,13 @@ fn print_pieces(
 }
 
 // The whole listing of a deck, a window file and the calls.
-pub(crate) fn print_listing(to: &impl Print, errors: &impl Print, deck: &[u8], window: &[u8], calls: &[u8]) {
+pub(crate) fn print_listing(
+    to: &impl Print,
+    errors: &impl Print,
+    deck: &[u8],
+    window: &[u8],
+    calls: &[u8],
+) {
     let mut kinds = [0u8; 4096];
     let mut marks = [0u8; 4096];
     let mut ids = [0u32; 4096];
