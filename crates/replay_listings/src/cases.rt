@@ -47,7 +47,12 @@ fn size_at(sizes: &[u8; 16], i: usize) -> usize
 }
 
 // Reads a case behind its four lengths, lists it and compares.
-pub(crate) fn replay_case(rt: &impl Print, input: &mut impl Read, number: u64, sizes: &[u8; 16]) -> Outcome
+pub(crate) fn replay_case(
+    rt: &impl Print,
+    input: &mut impl Read,
+    number: u64,
+    sizes: &[u8; 16],
+) -> Outcome
     ensures { (result.bytes < 4294967296) × (result.different ≤ 1) }
 {
     let mut deck = room();

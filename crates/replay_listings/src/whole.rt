@@ -6,7 +6,13 @@ use pieces::list_piece;
 use std::io::Read;
 
 // The listing of a deck, a window file and the calls, up to the first piece that differs from the stored bytes.
-pub(crate) fn compare_listing(input: &mut impl Read, deck: &[u8], window: &[u8], calls: &[u8], stored: usize) -> Compared {
+pub(crate) fn compare_listing(
+    input: &mut impl Read,
+    deck: &[u8],
+    window: &[u8],
+    calls: &[u8],
+    stored: usize,
+) -> Compared {
     let mut out = buffer();
     let mut cursor = first();
     let mut c = Compared {
