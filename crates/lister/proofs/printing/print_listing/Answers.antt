@@ -5,6 +5,3 @@ use Rattle.lister.proofs.printing.print_listing.Goals as goal
 pub open_listing-opened-requires : goal.open_listing-opened-requires
 unfolding empty_index
 open_listing-opened-requires g c = record { ends_value = refl; sums_value = refl }
-
-pub print_pieces-requires : goal.print_pieces-requires
-print_pieces-requires g c = c.open_listing-opened.ensures

@@ -1,24 +1,8 @@
 use mathlib.Core.Path.{sym}
 use native.Mathlib.Omega.{arith}
-use lib.ListN.{length}
 use lib.Seq.{length-take-le}
 use Rattle.listing.proofs.Advancing.{piece_within, last_within, piece_less}
 use Rattle.lister.proofs.printing.print_pieces.Goals as goal
-
-pub large_buffer-out-requires : goal.large_buffer-out-requires
-large_buffer-out-requires g c = tt
-
-pub first-cursor-requires : goal.first-cursor-requires
-first-cursor-requires g c = tt
-
-pub loop-length-init : goal.loop-length-init
-loop-length-init g c = c.large_buffer-out.ensures
-
-pub slice_bounds-next_piece-end : goal.slice_bounds-next_piece-end
-slice_bounds-next_piece-end g c = c.loop-length.invariant
-
-pub next_piece-piece-requires : goal.next_piece-piece-requires
-next_piece-piece-requires g c = c.requires
 
 pub slice_bounds-out-end : goal.slice_bounds-out-end
 slice_bounds-out-end g c =

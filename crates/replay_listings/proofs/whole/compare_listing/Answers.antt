@@ -1,24 +1,8 @@
 use mathlib.Core.Path.{sym}
 use native.Mathlib.Omega.{arith}
-use lib.ListN.{length}
 use lib.Seq.{length-take-le}
 use Rattle.listing.proofs.Advancing.{piece_within, last_within, piece_less}
 use Rattle.replay_listings.proofs.whole.compare_listing.Goals as goal
-
-pub buffer-out-requires : goal.buffer-out-requires
-buffer-out-requires g c = tt
-
-pub first-cursor-requires : goal.first-cursor-requires
-first-cursor-requires g c = tt
-
-pub loop-length-init : goal.loop-length-init
-loop-length-init g c = c.buffer-out.ensures
-
-pub slice_bounds-list_piece-end : goal.slice_bounds-list_piece-end
-slice_bounds-list_piece-end g c = c.loop-length.invariant
-
-pub list_piece-piece-requires : goal.list_piece-piece-requires
-list_piece-piece-requires g c = tt
 
 pub slice_bounds-out-end : goal.slice_bounds-out-end
 slice_bounds-out-end g c =
