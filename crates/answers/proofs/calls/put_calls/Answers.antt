@@ -59,30 +59,6 @@ more b i l =
 pub loop-i-init : goal.loop-i-init
 loop-i-init c = (omega arith, filled_none (words (goal.at.loop-i-init c).Start) 20 (length-20 (goal.at.loop-i-init c).Start) (calls (goal.at.loop-i-init c).Start) c.args.out.now (room (goal.at.loop-i-init c).Start))
 
--- ?? no goal overflow-mul-t25
--- mul-t25 : tie.Need-overflow-mul-t25 invariant-loop decreases-loop
--- mul-t25 c = let e = (even c.before.before.before.before.before.before.before.before.before.before.before.before.before.before.before.before.before).chromosomes in record { fits = omega arith }
-
--- ?? no goal shared-slice-read-t28
--- shared-slice-read-t28 : tie.Need-shared-slice-read-t28 invariant-loop decreases-loop
--- shared-slice-read-t28 c = let e = (even c.before.before.before.before.before.before.before.before.before.before.before.before.before.before.before.before.before.before).chromosomes in omega arith
-
--- ?? no goal overflow-mul-t29
--- mul-t29 : tie.Need-overflow-mul-t29 invariant-loop decreases-loop
--- mul-t29 c = record { fits = omega arith }
-
--- ?? no goal shared-slice-read-t31
--- shared-slice-read-t31 : tie.Need-shared-slice-read-t31 invariant-loop decreases-loop
--- shared-slice-read-t31 c = omega arith
-
--- ?? no goal shared-slice-read-t33
--- shared-slice-read-t33 : tie.Need-shared-slice-read-t33 invariant-loop decreases-loop
--- shared-slice-read-t33 c = let e = even c.before.before.before.before.before.before.before.before.before.before.before.before.before.before.before.before.before.before.before.before in omega arith
-
--- ?? no goal shared-slice-read-t35
--- shared-slice-read-t35 : tie.Need-shared-slice-read-t35 invariant-loop decreases-loop
--- shared-slice-read-t35 c = let e = even c.before.before.before.before.before.before.before.before.before.before.before.before.before.before.before.before.before.before.before.before.before in omega arith
-
 pub overflow_mul-i : goal.overflow_mul-i
 overflow_mul-i c =
     let e = room (goal.at.overflow_mul-i c).Start in

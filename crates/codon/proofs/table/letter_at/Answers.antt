@@ -3,14 +3,6 @@ use Rattle.codon.specs.Table.{standard_table, mitochondrial_table}
 use borrow.Author.Rules.{rules}
 use Rattle.codon.proofs.table.letter_at.Goals as goal
 
--- ?? no goal array-read-result
--- array-read-result : tie.Need-array-read-result
--- array-read-result c = search rules
-
--- ?? no goal array-read-result-2
--- array-read-result-2 : tie.Need-array-read-result-2
--- array-read-result-2 c = search rules
-
 pub returns-in-Standard : goal.returns-in-Standard
 unfolding standard_table
 returns-in-Standard c = rw c.in-Standard.is

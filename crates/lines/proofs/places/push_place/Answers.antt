@@ -10,16 +10,8 @@ use Rattle.lines.proofs.places.push_place.Goals as goal
 pub returns-then-kind-gt12 : goal.returns-then-kind-gt12
 returns-then-kind-gt12 c = let a = c.args in record { pushed = rw (no_place a.kind (omega arith)) (pushed_none a.out.now a.at); upper_bound = omega arith }
 
--- ?? no goal array-read-from
--- array-read-from : tie.Need-array-read-from
--- array-read-from c = search rules
-
 pub overflow_cast-from : goal.overflow_cast-from
 overflow_cast-from c = let r = place_row c.args.kind (omega arith) in let a = r.rises in let b = r.inside in omega arith
-
--- ?? no goal array-read-to
--- array-read-to : tie.Need-array-read-to
--- array-read-to c = search rules
 
 pub overflow_cast-to : goal.overflow_cast-to
 overflow_cast-to c = let r = place_row c.args.kind (omega arith) in let b = r.inside in omega arith
