@@ -1,7 +1,7 @@
 -- The altered letters as they are stored, and one law from an entry to the letter of a codon.
 -- Assumes nothing.
-use Prim.Native.Nat.{ℕ, ◌+◌, ◌*◌, ◌-◌, ◌/◌, ◌%◌, ◌≤◌, ◌<◌}
-use mathlib.Core.Path.{◌≡◌, refl, sym, ◌∙◌, ap}
+use Prim.Native.Nat.{ℕ, ◌+◌, ◌*◌, ◌-◌, ◌/◌, ◌%◌, ◌<◌}
+use mathlib.Core.Path.{◌≡◌, ◌∙◌}
 use mathlib.Core.Bool.{cond}
 use mathlib.Core.List.{List}
 use native.Mathlib.Omega.{arith}
@@ -12,11 +12,10 @@ use borrow.Author.Tests.{lt-ltb, le-ltb}
 use Rattle.codon.specs.declared.Codon.{Codon}
 use Rattle.codon.specs.declared.GeneticCode.{GeneticCode}
 use Rattle.codon.specs.declared.table.CodonIndex.TheVariants.{Numbered}
-use Rattle.codon.specs.Bases.{base_number}
 use Rattle.codon.specs.Table.{code_table, codon_to_index, translate_codon, build_alt_codon}
 use Rattle.codon.specs.Altered.{altered_letter}
 use Rattle.codon.specs.code.Letters.{entry_by_place, AlteredLetters, BothLetters}
-use Rattle.codon.proofs.Index.{found, codon_below}
+use Rattle.codon.proofs.Index.{found}
 use Rattle.codon.proofs.Replaced.{altered-is}
 
 in_order :

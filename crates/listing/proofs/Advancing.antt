@@ -1,15 +1,14 @@
 -- What a piece tells: it lies within the buffer, behind it less is left, and it is 28 only where the first line does not fit.
 -- Assumes nothing.
-use Prim.Native.Nat.{ℕ, ◌+◌, ◌-◌, ◌≤◌, ◌<◌}
+use Prim.Native.Nat.{ℕ, ◌-◌, ◌≤◌, ◌<◌}
 use mathlib.Core.Path.{◌≡◌, refl, sym, ◌∙◌, ap}
-use mathlib.Core.Bool.{true, false}
 use mathlib.Core.List.{List, [], ◌∷◌, ◌++◌}
 use native.Mathlib.Omega.{arith}
 use lib.ListN.{length, length-append}
 use lib.Dec.{eqb, leb}
 use borrow.Author.Tests.{ne_eqb, eqb-false, leb-true, leb-false, lt-ltb, le-ltb}
 use Rattle.common.specs.Refuse.{refuse}
-use Rattle.common.specs.Lists.{any, concat}
+use Rattle.common.specs.Lists.{any}
 use Rattle.common.proofs.TestParts.{on_test}
 use Rattle.transcript.specs.claims.Numbers.{NumberGiven}
 use Rattle.lines.specs.claims.Numbers.{written_numbers}
@@ -21,8 +20,8 @@ use Rattle.listing.specs.declared.Piece.TheVariants.{Lines, Last, Refused}
 use Rattle.listing.specs.Numbers.{piece_number, is_piece}
 use Rattle.listing.specs.Pieces.{Step, steps, start, pack, packed, piece_by, piece_of}
 use Rattle.listing.specs.claims.Numbers.{Each, line_too_long, PieceGiven}
-use Rattle.listing.proofs.Packing.{texts, Split, pack_split, packed_fits}
-use Rattle.listing.proofs.Resuming.{Resumes, resumed}
+use Rattle.listing.proofs.Packing.{Split, pack_split, packed_fits}
+use Rattle.listing.proofs.Resuming.{resumed}
 use Rattle.listing.proofs.Fitting.{Fitting, steps_fit}
 use Rattle.listing.proofs.Whole.{resumes, pre_some}
 

@@ -2,17 +2,16 @@
 -- Assumes nothing.
 use Prim.Native.Nat.{ℕ, zero, suc, ◌+◌, ◌≤◌, ◌<◌}
 use mathlib.Core.Path.{◌≡◌, refl, sym, ◌∙◌, ap}
-use mathlib.Core.Bool.{Bool, true, false, cond}
+use mathlib.Core.Bool.{Bool, true, false}
 use mathlib.Core.List.{List, [], ◌∷◌, ◌++◌}
 use native.Mathlib.Omega.{arith}
 use lib.ListN.{length, take, drop, length-drop, drop_of_length-le}
 use lib.Seq.{drop-drop, take-add, length-take-le}
-use lib.Dec.{eqb, ltb}
+use lib.Dec.{ltb}
 use borrow.Author.Tests.{ltb-true, ltb-false}
 use Rattle.common.proofs.TestParts.{on_test}
 use Rattle.transcript.specs.Transcript.{Transcript}
 use Rattle.consequence.specs.Window.{Window}
-use Rattle.lines.specs.Line.{newline}
 use Rattle.listing.specs.declared.Cursor.{Cursor}
 use Rattle.listing.specs.Calls.{lines_of, parse_call}
 use Rattle.listing.specs.Entries.{Entry, call_entries}

@@ -4,7 +4,7 @@ use Prim.Native.Nat.{ℕ, zero, suc, ◌+◌, ◌≤◌, ◌<◌}
 use mathlib.Core.Path.{◌≡◌, refl, sym, ◌∙◌, ap, subst}
 use mathlib.Core.List.{List, [], ◌∷◌, ◌++◌, map, map-append}
 use native.Mathlib.Omega.{arith}
-use lib.ListN.{length, take, drop, length-append, length-drop, length-map}
+use lib.ListN.{length, drop, length-append, length-drop, length-map}
 use lib.Seq.{take-append_seam}
 use borrow.Author.Tests.{ne_eqb}
 use Rattle.common.specs.Lists.{concat}
@@ -19,8 +19,8 @@ use Rattle.listing.specs.declared.Rest.TheVariants.{From, Nothing}
 use Rattle.listing.specs.Calls.{lines_of, parse_call}
 use Rattle.listing.specs.WindowFile.{window_of}
 use Rattle.listing.specs.Entries.{Entry, entry_line, call_entries, entries}
-use Rattle.listing.specs.Listing.{opening, listed, listing_by, listing, printed}
-use Rattle.listing.specs.Pieces.{Step, call_steps, steps_from, steps_by, steps, start, pack, packed, piece_by, piece_of, piece_to}
+use Rattle.listing.specs.Listing.{opening, listed, listing_by, listing}
+use Rattle.listing.specs.Pieces.{Step, call_steps, steps_from, steps_by, steps, start, pack, piece_by}
 use Rattle.listing.specs.claims.Numbers.{Each}
 use Rattle.listing.specs.claims.Whole.{shown, output, WholeOutput}
 use Rattle.listing.proofs.Packing.{text_of, texts, texts_both, Split, pack_split, packed_fits}

@@ -4,7 +4,6 @@ use Prim.Native.Nat.{ℕ, ◌≤◌, ◌<◌}
 use mathlib.Core.Path.{◌≡◌}
 use mathlib.Core.Bool.{Bool}
 use borrow.Author.Tests.{le-leb, lt-leb}
-use native.Mathlib.Omega.{arith}
 use lib.IntN.{pos}
 use Rattle.footprint.specs.declared.Ranges.{Ranges}
 use Rattle.locate.specs.Intronic.{minus, signed_distance, splice_region, deep_intron, classify_distances}

@@ -1,14 +1,11 @@
 -- A buffer into which lines are put, one behind the other.
 -- Assumes nothing.
-use Prim.Native.Nat.{ℕ, zero, suc, ◌+◌, ◌-◌, ◌≤◌, ◌<◌}
+use Prim.Native.Nat.{ℕ, zero, suc, ◌+◌, ◌-◌, ◌≤◌}
 use mathlib.Core.Path.{◌≡◌, refl, sym, ◌∙◌, ap}
-use mathlib.Core.Bool.{Bool, true, false, cond}
 use mathlib.Core.List.{List, [], ◌∷◌, ◌++◌, append_assoc, append-nil}
 use native.Mathlib.Omega.{arith}
 use lib.ListN.{length, take, drop, length-append, length-drop}
 use lib.Seq.{drop-nil, take_all, take-append_seam, drop-append_seam, drop-drop, drop-length}
-use lib.Dec.{leb}
-use borrow.Author.Tests.{leb-true, leb-false}
 use borrow.Rule.Slice.PartMut.{mid_of, post_of, put_mid}
 use Rattle.common.proofs.TestParts.{on_test}
 use Rattle.lines.specs.declared.Written.{Written}
@@ -18,7 +15,7 @@ use Rattle.listing.specs.declared.Rest.{Rest}
 use Rattle.listing.specs.declared.Rest.TheVariants.{From, Nothing}
 use Rattle.listing.specs.Entries.{Entry, malformed}
 use Rattle.listing.specs.Pieces.{Step, call_steps, Packed, behind, pack, piece_to}
-use Rattle.listing.proofs.Packing.{pack_fits, pack_full, pack_none, behind_both, pack_on, pack_both, packed_fits}
+use Rattle.listing.proofs.Packing.{pack_none, behind_both, pack_on, pack_both, packed_fits}
 use Rattle.pieces.specs.declared.fill.Filled.{Filled}
 use Rattle.pieces.specs.code.Filling.{filled_as, line_filled}
 

@@ -17,7 +17,6 @@ use Rattle.answers.specs.Calls.{calls_of, calls_words}
 use Rattle.footprint.specs.Ranges.{source_ranges}
 use Rattle.answers.proofs.Nearness.{flank_low}
 use Rattle.answers.proofs.Leaving.{misfit, list_refused, list_answered}
-use borrow.Author.Rules.{rules}
 use Rattle.std.specs.Prelude.{not}
 use Rattle.answers.proofs.calls.answer_calls.Goals as goal
 use Rattle.answers.proofs.calls.answer_calls.Goals.{Else-not-calls_fit, In-Admitted, Start}

@@ -1,6 +1,5 @@
 -- The table of the code is the genetic code's.
 use Rattle.codon.specs.Table.{standard_table, mitochondrial_table}
-use borrow.Author.Rules.{rules}
 use Rattle.codon.proofs.table.letter_at.Goals as goal
 
 pub returns-in-Standard : goal.returns-in-Standard

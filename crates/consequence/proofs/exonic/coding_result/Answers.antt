@@ -1,5 +1,4 @@
 -- The columns of a base with its codon.
-use borrow.Author.Rules.{rules}
 use Rattle.consequence.proofs.exonic.coding_result.Goals as goal
 
 pub returns : goal.returns

@@ -4,7 +4,6 @@ use lib.ListN.{get_or, drop, length-take}
 use Rattle.common.proofs.Stored.{pushed_none}
 use Rattle.lines.proofs.Nameless.{no_place}
 use Rattle.lines.proofs.NameTable.{places, place_ends, place_row}
-use borrow.Author.Rules.{rules}
 use Rattle.lines.proofs.places.push_place.Goals as goal
 
 pub returns-then-kind-gt12 : goal.returns-then-kind-gt12

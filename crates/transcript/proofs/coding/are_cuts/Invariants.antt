@@ -1,7 +1,5 @@
-use mathlib.Core.Path.{◌≡◌}
-use Prim.Native.Nat.{◌-◌, min, max}
-use lib.ListN.{length, get_or}
-use Rattle.transcript.specs.Orient.{orient}
+use Prim.Native.Nat.{◌-◌}
+use lib.ListN.{length}
 use Rattle.transcript.proofs.Matched.{Matched}
 use Rattle.transcript.proofs.coding.are_cuts.Given as goal
 
