@@ -58,31 +58,31 @@ module _ (c : Codon) (b n k : ℕ) (hk : k < 4) (hb : base_number b ≡ k) where
   replaced (suc (suc (suc place))) h hn f = absurd (omega arith)
 
   -- the entry of a codon, a place and a base is the letter of the codon with the base there
-  pub altered-is :
+  pub altered_is :
       (table : List ℕ) (place : ℕ) → place ≤ 2 → codon_to_index c ≡ Numbered n →
       altered_letter table (n * 12 + place * 4 + k) ≡ translate_codon table (build_alt_codon c place b)
   unfolding altered_letter translate_codon
-  altered-is table place h e =
+  altered_is table place h e =
       let x : (n * 12 + place * 4 + k) / 12 ≡ n = omega arith in
       let y : (n * 12 + place * 4 + k) / 4 % 3 ≡ place = omega arith in
       let z : (n * 12 + place * 4 + k) % 4 ≡ k = omega arith in
       rw (x, y, z) (ap (letter_at table) (replaced place h (codon_below c n e) (found c n e)))
 
 -- a codon that is none stays none, whatever is put in where a base stood
-pub altered-none :
+pub altered_none :
     (c : Codon) (place b : ℕ) → place ≤ 2 → codon_to_index (build_alt_codon c place 65) ≡ NoCodon →
     codon_to_index (build_alt_codon c place b) ≡ NoCodon
 unfolding build_alt_codon
-altered-none c zero b h e =
+altered_none c zero b h e =
     not_found (build_alt_codon c 0 b)
     (λ n f. never (sym e ∙ found_place (record { first = a_base; second = f.second; third = f.third; place = refl })))
-altered-none c (suc zero) b h e =
+altered_none c (suc zero) b h e =
     not_found (build_alt_codon c 1 b)
     (λ n f. never (sym e ∙ found_place (record { first = f.first; second = a_base; third = f.third; place = refl })))
-altered-none c (suc (suc zero)) b h e =
+altered_none c (suc (suc zero)) b h e =
     not_found (build_alt_codon c 2 b)
     (λ n f. never (sym e ∙ found_place (record { first = f.first; second = f.second; third = a_base; place = refl })))
-altered-none c (suc (suc (suc place))) b h e = absurd (omega arith)
+altered_none c (suc (suc (suc place))) b h e = absurd (omega arith)
 
 -- a codon with a byte put in that is no base is none
 pub altered_lost : (c : Codon) (place b : ℕ) → place ≤ 2 → 3 < base_number b → codon_to_index (build_alt_codon c place b) ≡ NoCodon

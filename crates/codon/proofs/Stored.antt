@@ -16,7 +16,7 @@ use Rattle.codon.specs.Table.{code_table, codon_to_index, translate_codon, build
 use Rattle.codon.specs.Altered.{altered_letter}
 use Rattle.codon.specs.code.Letters.{entry_by_place, AlteredLetters, BothLetters}
 use Rattle.codon.proofs.Index.{found}
-use Rattle.codon.proofs.Replaced.{altered-is}
+use Rattle.codon.proofs.Replaced.{altered_is}
 
 in_order :
     (table : List ℕ) (codon place base : ℕ) → codon < 64 → base < 4 →
@@ -45,7 +45,7 @@ own_is table c n e =
     let f = found c n e in
     let p = f.place in
     let t = f.third in
-    altered-is c c.third n (n % 4) (omega arith) (omega arith) table 2 (omega arith) e
+    altered_is c c.third n (n % 4) (omega arith) (omega arith) table 2 (omega arith) e
 
 -- the letters of both codes in one row
 abbrev pub each_entry : ℕ → ℕ

@@ -1,4 +1,5 @@
 -- What a deck contains: its transcripts in chain order, each as lists of numbers.
+use Rattle.common.specs.Slices.{PassedLent}
 use Rattle.std.specs.Prelude.{ℕ, cond, List, [], ◌∷◌, map, length, take, drop, ltb, ◌≡◌}
 use Rattle.common.specs.Flag.{flag}
 use Rattle.common.specs.Lists.{concat}
@@ -7,7 +8,6 @@ use Rattle.transcript.specs.declared.Strand.{Strand}
 use Rattle.transcript.specs.declared.Strand.TheVariants.{Plus, Minus}
 use Rattle.transcript.specs.declared.TranscriptModel.{TranscriptModel}
 use Rattle.transcript.specs.Transcript.{Transcript, cds_start, cds_end, has_bounds}
-use Rattle.deck.specs.Lent.{PassedLent}
 use Rattle.deck.specs.declared.DeckAnswer.{DeckAnswer}
 use Rattle.deck.specs.declared.DeckAnswer.TheVariants.{Accepted, Refused}
 use Rattle.deck.specs.Deck.{read_deck, deck_transcripts}

@@ -1,3 +1,3 @@
-// The demands on the definitions: where coding bases are, what an offset counts, and what a longer transcript keeps. There is no code:
-// specs/Demands.antt has the statements, proofs/Offsets.antt and proofs/Keeping.antt the theorems.
+// What a longer transcript keeps, on the definitions. There is no code: specs/claims has the statements, proofs/Keeping.antt and
+// proofs/Witness.antt the theorems.
 #![tactic(auto)]

@@ -36,7 +36,7 @@ some_interval (x ∷ xs) p h = omega arith
 
 module _ (σ : Strand) (gs ge sums bs : List ℕ) (c : Coded σ gs ge sums bs) where
   pub base_inside : (i : ℕ) → i < length bs → inside_any (orient_base σ (get_or bs i 0)) (lent_exons σ gs ge) ≡ true
-  base_inside i l = not-false _ (inside bs i c.bases_in_lem l)
+  base_inside i l = not-false _ (inside bs i c.bases_held l)
     where
       inside : (bs : List ℕ) (i : ℕ) → any (in_none (lent_exons σ gs ge)) (map (orient_base σ) bs) ≡ false → i < length bs → not (inside_any (orient_base σ (get_or bs i 0)) (lent_exons σ gs ge)) ≡ false
       inside [] i h l = absurd (omega arith)

@@ -114,7 +114,7 @@ module _ (m : TranscriptModel) (ss es ps is gs ge bs : List ℕ) (h : admission 
           summed = coding;
           few_bases = x.few_bases;
           bases_low = x.bases_low;
-          bases_in_lem = rw (← segments_are m ss es ps is gs ge bs h) (known m ss es ps is gs ge bs h).selenocysteine_in;
+          bases_held = rw (← segments_are m ss es ps is gs ge bs h) (known m ss es ps is gs ge bs h).selenocysteine_in;
         }
 
     pub codons : filled 64 (map (λ b. (first_sum sums + bases_in (lent_exons m.strand gs ge) 0 b) / 3 + 1) (map (orient_base m.strand) bs)) ≡ (locate_index o).selenocysteine_codons

@@ -28,7 +28,7 @@ pub(crate) fn rows_in(
 ) -> Rows
     requires { k < 4096 }
     ensures { result ≡ record {
-      exons = get_or exons.entry.now k 0;
+      exons = get_or exons.now k 0;
       bounds = get_or bounds.now k 0;
       segments = get_or segments.now k 0;
       bases = get_or bases.now k 0;

@@ -1,7 +1,7 @@
 -- The table of a deck: its records in the order of the walk, a column for each field. Each transcript stands as rows one behind
 -- the other: the transcript, its exons, its bounds if it has them, its segments, its selenocysteine bases.
 use Rattle.std.specs.Prelude.{ℕ, zero, suc, ◌+◌, ◌-◌, ◌≤◌, ◌<◌, Bool, cond, not, ◌&&◌, List, [], ◌∷◌, map, length, get_or, take, drop, replicate, ltb, eqb}
-use Rattle.common.specs.Slices.{Slice, Passed}
+use Rattle.common.specs.Slices.{Slice, Passed, Lent, PassedLent}
 use Rattle.common.specs.Stored.{filled}
 use Rattle.transcript.specs.declared.CdsBounds.{CdsBounds}
 use Rattle.transcript.specs.declared.CdsBounds.TheVariants.{Neither, Both}
@@ -9,7 +9,6 @@ use Rattle.transcript.specs.declared.Exon.{Exon}
 use Rattle.transcript.specs.declared.TranscriptModel.{TranscriptModel}
 use Rattle.transcript.specs.Transcript.{Transcript, exons_of, lent}
 use Rattle.transcript.specs.Admission.{admission_of}
-use Rattle.deck.specs.Lent.{Lent, PassedLent}
 use Rattle.deck.specs.declared.DeckAnswer.{DeckAnswer}
 use Rattle.deck.specs.declared.DeckAnswer.TheVariants.{Accepted}
 use Rattle.deck.specs.declared.structure.Structure.{Structure}

@@ -18,4 +18,4 @@ pub record Coded (strand : Strand) (starts ends sums bases : List ℕ) : Type 0 
   pub summed : Sums (lent_exons strand starts ends) sums
   pub few_bases : length bases ≤ max_selenocysteine
   pub bases_low : any over_limit bases ≡ false
-  pub bases_in_lem : any (in_none (lent_exons strand starts ends)) (map (orient_base strand) bases) ≡ false
+  pub bases_held : any (in_none (lent_exons strand starts ends)) (map (orient_base strand) bases) ≡ false

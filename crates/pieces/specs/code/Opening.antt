@@ -1,8 +1,7 @@
 -- An opened listing: what deck, window file and calls are judged to be, the deck's table and its index.
 use Rattle.std.specs.Prelude.{ℕ, List}
 use denote.Triple.Both.{Both}
-use Rattle.common.specs.Slices.{Slice}
-use Rattle.deck.specs.Lent.{PassedLent}
+use Rattle.common.specs.Slices.{Slice, PassedLent}
 use Rattle.deck.specs.code.Table.{DeckTable, table_given, table_left, deck_table}
 use Rattle.listing.specs.declared.Opening.{Opening}
 use Rattle.listing.specs.declared.Opening.TheVariants.{Listing, Refused}

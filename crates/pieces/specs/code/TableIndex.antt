@@ -3,7 +3,7 @@
 use Rattle.std.specs.Prelude.{ℕ, suc, ◌≡◌, Bool, false, cond, List, [], ◌∷◌, map, set, replicate, eqb}
 use Rattle.std.specs.Borrow.{Bor, MutBor}
 use denote.Triple.Both.{Both}
-use Rattle.common.specs.Slices.{Slice}
+use Rattle.common.specs.Slices.{Slice, Lent, PassedLent}
 use Rattle.common.specs.Lists.{any}
 use Rattle.common.specs.Stored.{stored}
 use Rattle.transcript.specs.Transcript.{Transcript}
@@ -13,7 +13,6 @@ use Rattle.transcript.specs.Admission.{admission}
 use Rattle.footprint.specs.ShortIntron.{is_frameshift_gap}
 use Rattle.locate.specs.Index.{cumulative}
 use Rattle.deck.specs.declared.rows.Rows.{Rows}
-use Rattle.deck.specs.Lent.{Lent, PassedLent}
 use Rattle.deck.specs.code.Table.{DeckTable, rows_at, transcript_at, transcript_rows}
 
 pub record TableIndex : Type 0 where

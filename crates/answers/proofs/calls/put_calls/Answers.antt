@@ -25,8 +25,8 @@ window b = record { chromosome = b.args.window_chromosome; first = b.args.window
 abbrev words : Start → Call → List ℤ
 words b q = call_words b.args.ranges (transcript b) (window b) q
 
-length-20 : (b : Start) (q : Call) → length (words b q) ≡ 20
-length-20 b q = called_length (annotate_snv b.args.ranges (transcript b) (window b) q)
+length_20 : (b : Start) (q : Call) → length (words b q) ≡ 20
+length_20 b q = called_length (annotate_snv b.args.ranges (transcript b) (window b) q)
 
 abbrev calls : Start → List Call
 calls b = calls_of b.args.chromosomes.now b.args.positions.now b.args.refs.now b.args.alts.now
@@ -45,7 +45,7 @@ abbrev at : Start → ℕ → List ℤ
 at b i = filled_to (words b) 20 (calls b) b.args.out.now i
 
 long : (b : Start) (i : ℕ) → i ≤ length b.args.positions.now → length (at b i) ≡ length b.args.out.now
-long b i l = filled_length (words b) 20 (length-20 b) (calls b) b.args.out.now (room b) i (rw (count b) l)
+long b i l = filled_length (words b) 20 (length_20 b) (calls b) b.args.out.now (room b) i (rw (count b) l)
 
 -- the call at i
 abbrev asked : Start → ℕ → Call
@@ -54,10 +54,10 @@ asked b i = snv (get_or b.args.chromosomes.now i 0) (get_or b.args.positions.now
 more : (b : Start) (i : ℕ) → i < length b.args.positions.now → sets (at b i) (20 * i) (words b (asked b i)) ≡ at b (i + 1)
 more b i l =
     ap (λ (q : Call). sets (at b i) (20 * i) (words b q)) (sym (call_at b.args.chromosomes.now b.args.positions.now b.args.refs.now b.args.alts.now (even b) i l))
-    ∙ filled_more (words b) 20 (length-20 b) (calls b) b.args.out.now (room b) i (snv 0 0 0 0) (rw (count b) l)
+    ∙ filled_more (words b) 20 (length_20 b) (calls b) b.args.out.now (room b) i (snv 0 0 0 0) (rw (count b) l)
 
 pub loop-i-init : goal.loop-i-init
-loop-i-init c = (omega arith, filled_none (words (goal.at.loop-i-init c).Start) 20 (length-20 (goal.at.loop-i-init c).Start) (calls (goal.at.loop-i-init c).Start) c.args.out.now (room (goal.at.loop-i-init c).Start))
+loop-i-init c = (omega arith, filled_none (words (goal.at.loop-i-init c).Start) 20 (length_20 (goal.at.loop-i-init c).Start) (calls (goal.at.loop-i-init c).Start) c.args.out.now (room (goal.at.loop-i-init c).Start))
 
 pub overflow_mul-i : goal.overflow_mul-i
 overflow_mul-i c =
@@ -93,4 +93,4 @@ pub returns : goal.returns
 returns c =
     let l = c.loop-i in
     let n = count (goal.at.returns c).Start in
-    l.invariant.1 ∙ filled_all (words (goal.at.returns c).Start) 20 (length-20 (goal.at.returns c).Start) (calls (goal.at.returns c).Start) c.args.out.now (room (goal.at.returns c).Start) l.i (omega arith)
+    l.invariant.1 ∙ filled_all (words (goal.at.returns c).Start) 20 (length_20 (goal.at.returns c).Start) (calls (goal.at.returns c).Start) c.args.out.now (room (goal.at.returns c).Start) l.i (omega arith)

@@ -58,9 +58,9 @@ there b = place_called (call_table (transcript b)) (oriented (transcript b)) b.a
 abbrev left : Start → SpliceSpill → Called → List ℤ
 left b s x = sets b.args.out.now b.args.at (called_words (spilled s x))
 
-is-there : (c : After-read_cds_codon-read) → let b = back1 c in given_by b c.read_cds_codon-read.result ≡ there b
+is_there : (c : After-read_cds_codon-read) → let b = back1 c in given_by b c.read_cds_codon-read.result ≡ there b
 unfolding oriented
-is-there c =
+is_there c =
     let b = back1 c in
     c.read_cds_codon-read.ensures (call_table (transcript b)) (oriented (transcript b)) b.requires.fact_3 b.requires.fact_1.scalars_are refl (on b segments_at) b.requires.fact_1.codons_are
     b.args.p (place b) b.args.index b.args.mark
@@ -78,7 +78,7 @@ put_refusal-requires c = c.requires.fact_5
 pub returns-in_default : goal.returns-in_default
 returns-in_default c =
     let s = spill_at (oriented (transcript (goal.at.returns-in_default c).Start)) c.args.p in
-    c.put_refusal.ensures ∙ ap (left (goal.at.returns-in_default c).Start s) (ap (given_by (goal.at.returns-in_default c).Start) (sym c.in_default.is) ∙ is-there (goal.at.returns-in_default c).After-read_cds_codon-read)
+    c.put_refusal.ensures ∙ ap (left (goal.at.returns-in_default c).Start s) (ap (given_by (goal.at.returns-in_default c).Start) (sym c.in_default.is) ∙ is_there (goal.at.returns-in_default c).After-read_cds_codon-read)
 
 pub spill_at-spill-requires : goal.spill_at-spill-requires
 spill_at-spill-requires c = record { ready = on (goal.at.spill_at-spill-requires c).Start exons_ready; p_le_top = c.requires.fact_4 }
@@ -100,7 +100,7 @@ returns c =
     let e : s.result ≡ spill_at t c.args.p = s.ensures t (on (goal.at.returns c).Start exons_at) (ap (λ (x : IndexScalars). x.has_frameshift_intron) c.requires.fact_1.scalars_are) in
     let cdna = on (goal.at.returns c).Start coding_cdna c.args.ranges c.args.p (place (goal.at.returns c).Start) c.requires.fact_2 c.args.index c.args.offset c.args.number c.args.position c.args.mark refl in
     let terms = c.spill_terms-terms.ensures ∙ ap (spill_terms s.result.donor s.result.acceptor) c.with_mark-marked.ensures in
-    let f = ap (given_by (goal.at.returns c).Start) (sym c.in-Read.is) ∙ is-there (goal.at.returns c).After-read_cds_codon-read in
+    let f = ap (given_by (goal.at.returns c).Start) (sym c.in-Read.is) ∙ is_there (goal.at.returns c).After-read_cds_codon-read in
     c.put_coding.ensures t c.args.p (on (goal.at.returns c).Start exon_count) (cdna ∙ sym c.cdna_position-cdna.ensures)
     ∙ ap (λ (n : ℕ). sets c.args.out.now c.args.at (called_words (Called.Answered (exon_result t c.args.p (place (goal.at.returns c).Start) c.args.index (columns_of c.args.offset.0 c.args.number c.args.position c.in-Read.columns) n)))) terms
     ∙ (λ k. left (goal.at.returns c).Start (e k) (f k))

@@ -2,7 +2,7 @@
 use mathlib.Core.Path.{◌∙◌, sym}
 use native.Mathlib.Omega.{arith}
 use Rattle.codon.specs.Table.{translate_codon}
-use Rattle.codon.proofs.Replaced.{altered-is, altered_lost}
+use Rattle.codon.proofs.Replaced.{altered_is, altered_lost}
 use Rattle.codon.proofs.altered.altered_letter_at.Goals as goal
 
 pub returns-then-base-gt3 : goal.returns-then-base-gt3
@@ -16,4 +16,4 @@ pub returns : goal.returns
 returns c = λ table d e i.
     let a = c.args in
     let k = c.base_number-base in
-    c.altered_letter.ensures table e ∙ altered-is d a.b a.codon k.result (omega arith) (sym k.ensures) table a.place (omega arith) i
+    c.altered_letter.ensures table e ∙ altered_is d a.b a.codon k.result (omega arith) (sym k.ensures) table a.place (omega arith) i

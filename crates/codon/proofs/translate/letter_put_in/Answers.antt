@@ -4,7 +4,7 @@ use native.Mathlib.Omega.{arith}
 use Rattle.codon.specs.declared.table.CodonIndex.TheVariants.{Numbered}
 use Rattle.codon.specs.Table.{codon_to_index, translate_codon, build_alt_codon}
 use Rattle.codon.proofs.Index.{codon_below}
-use Rattle.codon.proofs.Replaced.{altered-none, altered_again, unaltered}
+use Rattle.codon.proofs.Replaced.{altered_none, altered_again, unaltered}
 use Rattle.codon.proofs.translate.letter_put_in.Goals as goal
 use Rattle.codon.proofs.translate.letter_put_in.Goals.{After-codon_to_index, In-Numbered}
 
@@ -35,7 +35,7 @@ pub returns-in_default-codon_to_index : goal.returns-in_default-codon_to_index
 unfolding translate_codon
 returns-in_default-codon_to_index c = λ table e.
     let a = c.args in
-    rw (altered-none a.c a.place a.b c.if-place-gt2.false (place_of (goal.at.returns-in_default-codon_to_index c).After-codon_to_index ∙ c.in_default-codon_to_index.is))
+    rw (altered_none a.c a.place a.b c.if-place-gt2.false (place_of (goal.at.returns-in_default-codon_to_index c).After-codon_to_index ∙ c.in_default-codon_to_index.is))
 
 pub altered_letter_at-requires-2 : goal.altered_letter_at-requires-2
 altered_letter_at-requires-2 c =

@@ -24,27 +24,27 @@ abbrev called : Start → List ℕ → Oriented → ℕ → VariantLocation → 
 called b table t p place i mark c =
     coding_called table t p (coding_byte b.args.strand b.args.alt_base) place i b.args.offset b.args.number b.args.position mark c
 
-pad-of : (b : Start) (t : Oriented) → b.args.scalars ≡ index_scalars t → t.pad ≡ b.args.scalars.cds_start_pad
-pad-of b t h = sym (ap (λ (x : IndexScalars). x.cds_start_pad) h)
+pad_of : (b : Start) (t : Oriented) → b.args.scalars ≡ index_scalars t → t.pad ≡ b.args.scalars.cds_start_pad
+pad_of b t h = sym (ap (λ (x : IndexScalars). x.cds_start_pad) h)
 
-total-of : (b : Start) (t : Oriented) → b.args.scalars ≡ index_scalars t → total_cds_length t ≡ b.args.scalars.total_cds_length
-total-of b t h = sym (ap (λ (x : IndexScalars). x.total_cds_length) h)
+total_of : (b : Start) (t : Oriented) → b.args.scalars ≡ index_scalars t → total_cds_length t ≡ b.args.scalars.total_cds_length
+total_of b t h = sym (ap (λ (x : IndexScalars). x.total_cds_length) h)
 
 pub returns-in_default : goal.returns-in_default
 returns-in_default c =
     λ table t e hs hc hg hu p place i mark.
-    ap (called (goal.at.returns-in_default c).Start table t p place i mark) (sym c.in_default.is ∙ c.fetch_ref_codon-codon.ensures t (pad-of (goal.at.returns-in_default c).Start t hs) hg (total-of (goal.at.returns-in_default c).Start t hs))
+    ap (called (goal.at.returns-in_default c).Start table t p place i mark) (sym c.in_default.is ∙ c.fetch_ref_codon-codon.ensures t (pad_of (goal.at.returns-in_default c).Start t hs) hg (total_of (goal.at.returns-in_default c).Start t hs))
 
 pub returns : goal.returns
 unfolding codon_columns
 returns c =
     let bases = c.in-Bases.c in
     λ table t e hs hc hg hu p place i mark.
-    let start = c.is_start_codon.ensures t (pad-of (goal.at.returns c).Start t hs) hc in
-    let padded = c.is_padded_codon.ensures t (pad-of (goal.at.returns c).Start t hs) in
-    let unfinished = c.is_incomplete_terminal_codon.ensures ∙ ap (λ (n : ℕ). incomplete_at n c.args.offset.0) (sym (total-of (goal.at.returns c).Start t hs)) in
+    let start = c.is_start_codon.ensures t (pad_of (goal.at.returns c).Start t hs) hc in
+    let padded = c.is_padded_codon.ensures t (pad_of (goal.at.returns c).Start t hs) in
+    let unfinished = c.is_incomplete_terminal_codon.ensures ∙ ap (λ (n : ℕ). incomplete_at n c.args.offset.0) (sym (total_of (goal.at.returns c).Start t hs)) in
     let held = c.holds_selenocysteine.ensures t (ap (λ (x : IndexScalars). x.selenocysteine_count) hs) hu in
     let columns = c.read_codon.ensures table t c.args.offset.0 c.args.number e start padded unfinished held
     ∙ ap (λ (n : ℕ). read_codon table t c.args.offset.0 c.args.number bases (build_alt_codon bases c.args.position n) c.args.position) c.coding_byte.ensures in
     ap (λ (x : Columns). Called.Answered (codon_result t p place (Region.Coding i c.args.offset c.args.number c.args.position mark) x)) columns
-    ∙ ap (called (goal.at.returns c).Start table t p place i mark) (sym c.in-Bases.is ∙ c.fetch_ref_codon-codon.ensures t (pad-of (goal.at.returns c).Start t hs) hg (total-of (goal.at.returns c).Start t hs))
+    ∙ ap (called (goal.at.returns c).Start table t p place i mark) (sym c.in-Bases.is ∙ c.fetch_ref_codon-codon.ensures t (pad_of (goal.at.returns c).Start t hs) hg (total_of (goal.at.returns c).Start t hs))

@@ -58,8 +58,8 @@ abbrev from : Start → ℕ
 from b = b.args.k - b.args.k % 3
 
 -- the length of the codon, and that its bases lie within the CDS
-length-is : (c : After-codon_length-len) (t : Oriented) → total_cds_length t ≡ (start c).args.scalars.total_cds_length → c.codon_length-len.result ≡ codon_length t (start c).args.k
-length-is c t w = c.codon_length-len.ensures ∙ ap (λ (n : ℕ). length_at n (start c).args.k) (sym w)
+length_is : (c : After-codon_length-len) (t : Oriented) → total_cds_length t ≡ (start c).args.scalars.total_cds_length → c.codon_length-len.result ≡ codon_length t (start c).args.k
+length_is c t w = c.codon_length-len.ensures ∙ ap (λ (n : ℕ). length_at n (start c).args.k) (sym w)
 
 fits : (c : After-codon_length-len) → from (start c) + c.codon_length-len.result ≤ (start c).args.scalars.total_cds_length
 fits c =
@@ -82,15 +82,15 @@ next b = held_next b.args.strand b.args.starts.now b.args.ends.now b.args.sums.n
 held : (c : After-segment_near-i) → HeldAt (start (back4 c)) (from (start (back4 c))) c.segment_near-i.result
 held c = rw (start (back4 c)).requires.segment_count_value at c.segment_near-i.ensures
 
-held-second : (c : After-next_segment-j) → HeldAt (start (back5 c)) (from (start (back5 c)) + 1) c.next_segment-j.result
-held-second c =
+held_second : (c : After-next_segment-j) → HeldAt (start (back5 c)) (from (start (back5 c)) + 1) c.next_segment-j.result
+held_second c =
     let b = start (back5 c) in
     next b (from b) c.segment_near-i.result (held (back6 c)) (from b + 1) c.next_segment-j.result refl (within (back5 c) 1 (omega arith)) c.next_segment-j.ensures
 
-held-third : (c : After-next_segment-l) → HeldAt (start (back7 c)) (from (start (back7 c)) + 2) c.next_segment-l.result
-held-third c =
+held_third : (c : After-next_segment-l) → HeldAt (start (back7 c)) (from (start (back7 c)) + 2) c.next_segment-l.result
+held_third c =
     let b = start (back7 c) in
-    next b (from b + 1) c.next_segment-j.result (held-second (back8 c)) (from b + 2) c.next_segment-l.result (omega arith) (within (back7 c) 2 (omega arith)) c.next_segment-l.ensures
+    next b (from b + 1) c.next_segment-j.result (held_second (back8 c)) (from b + 2) c.next_segment-l.result (omega arith) (within (back7 c) 2 (omega arith)) c.next_segment-l.ensures
 
 -- the bases read
 abbrev Reads : Start → ℕ → FetchedBase → Type 0
@@ -117,12 +117,12 @@ cds_base-requires c = record { segments = (start (goal.at.cds_base-requires c).A
 
 pub returns-in_default : goal.returns-in_default
 returns-in_default c =
-    λ t h s w. outside_first t (view (start (goal.at.returns-in_default c).After-codon_length-len)) (start (goal.at.returns-in_default c).After-codon_length-len).args.k c.codon_length-len.result (length-is (goal.at.returns-in_default c).After-codon_length-len t w) (sym (c.cds_base.ensures t h s) ∙ c.in_default.is)
+    λ t h s w. outside_first t (view (start (goal.at.returns-in_default c).After-codon_length-len)) (start (goal.at.returns-in_default c).After-codon_length-len).args.k c.codon_length-len.result (length_is (goal.at.returns-in_default c).After-codon_length-len t w) (sym (c.cds_base.ensures t h s) ∙ c.in_default.is)
 
 pub returns-then-len-lt2 : goal.returns-then-len-lt2
 returns-then-len-lt2 c =
     let l = one (goal.at.returns-then-len-lt2 c).In-Base in
-    λ t h s w. c.codon_of.ensures ∙ one_base t (view (start l)) (start l).args.k l.codon_length-len.result (length-is l t w) _ (first_is (goal.at.returns-then-len-lt2 c).In-Base t h s) (omega arith)
+    λ t h s w. c.codon_of.ensures ∙ one_base t (view (start l)) (start l).args.k l.codon_length-len.result (length_is l t w) _ (first_is (goal.at.returns-then-len-lt2 c).In-Base t h s) (omega arith)
 
 pub next_segment-j-requires : goal.next_segment-j-requires
 next_segment-j-requires c =
@@ -134,25 +134,25 @@ next_segment-j-requires c =
     (omega arith, omega arith)
 
 pub cds_base-requires-2 : goal.cds_base-requires-2
-cds_base-requires-2 c = record { segments = (start (goal.at.cds_base-requires-2 c).After-codon_length-len).requires.segments; held = held-second (goal.at.cds_base-requires-2 c).After-next_segment-j }
+cds_base-requires-2 c = record { segments = (start (goal.at.cds_base-requires-2 c).After-codon_length-len).requires.segments; held = held_second (goal.at.cds_base-requires-2 c).After-next_segment-j }
 
 pub returns-in_default-cds_base : goal.returns-in_default-cds_base
 returns-in_default-cds_base c =
     let l = one (goal.at.returns-in_default-cds_base c).In-Base in
-    λ t h s w. outside_second t (view (start l)) (start l).args.k l.codon_length-len.result (length-is l t w) _ (first_is (goal.at.returns-in_default-cds_base c).In-Base t h s) (omega arith) (sym (c.cds_base-2.ensures t h s) ∙ c.in_default-cds_base.is)
+    λ t h s w. outside_second t (view (start l)) (start l).args.k l.codon_length-len.result (length_is l t w) _ (first_is (goal.at.returns-in_default-cds_base c).In-Base t h s) (omega arith) (sym (c.cds_base-2.ensures t h s) ∙ c.in_default-cds_base.is)
 
 pub returns-then-len-lt3 : goal.returns-then-len-lt3
 returns-then-len-lt3 c =
     let x = two (goal.at.returns-then-len-lt3 c).In-Base-cds_base in
     let l = one x in
-    λ t h s w. c.codon_of-then-len-lt3.ensures ∙ two_bases t (view (start l)) (start l).args.k l.codon_length-len.result (length-is l t w) _ (first_is x t h s) _ (second_is (goal.at.returns-then-len-lt3 c).In-Base-cds_base t h s) (omega arith) (omega arith)
+    λ t h s w. c.codon_of-then-len-lt3.ensures ∙ two_bases t (view (start l)) (start l).args.k l.codon_length-len.result (length_is l t w) _ (first_is x t h s) _ (second_is (goal.at.returns-then-len-lt3 c).In-Base-cds_base t h s) (omega arith) (omega arith)
 
 pub overflow_add-from-3 : goal.overflow_add-from-3
 overflow_add-from-3 c = let l = one (two (goal.at.overflow_add-from-3 c).In-Base-cds_base) in let b = start l in let w = fits l in omega arith
 
 pub next_segment-l-requires : goal.next_segment-l-requires
 next_segment-l-requires c =
-    let h = held-second (goal.at.next_segment-l-requires c).After-next_segment-j in
+    let h = held_second (goal.at.next_segment-l-requires c).After-next_segment-j in
     let b = start (one (two (goal.at.next_segment-l-requires c).In-Base-cds_base)) in
     let i = h.index in
     let r = b.requires.segments.ready.few in
@@ -163,17 +163,17 @@ pub overflow_add-from-4 : goal.overflow_add-from-4
 overflow_add-from-4 c = let l = one (two (goal.at.overflow_add-from-4 c).In-Base-cds_base) in let b = start l in let w = fits l in omega arith
 
 pub cds_base-requires-3 : goal.cds_base-requires-3
-cds_base-requires-3 c = record { segments = (start (goal.at.cds_base-requires-3 c).After-codon_length-len).requires.segments; held = held-third (goal.at.cds_base-requires-3 c).After-next_segment-l }
+cds_base-requires-3 c = record { segments = (start (goal.at.cds_base-requires-3 c).After-codon_length-len).requires.segments; held = held_third (goal.at.cds_base-requires-3 c).After-next_segment-l }
 
 pub returns-in_default-cds_base-2 : goal.returns-in_default-cds_base-2
 returns-in_default-cds_base-2 c =
     let x = two (goal.at.returns-in_default-cds_base-2 c).In-Base-cds_base in
     let l = one x in
-    λ t h s w. outside_third t (view (start l)) (start l).args.k l.codon_length-len.result (length-is l t w) _ (first_is x t h s) _ (second_is (goal.at.returns-in_default-cds_base-2 c).In-Base-cds_base t h s) (omega arith) (sym (c.cds_base-3.ensures t h s) ∙ c.in_default-cds_base-2.is)
+    λ t h s w. outside_third t (view (start l)) (start l).args.k l.codon_length-len.result (length_is l t w) _ (first_is x t h s) _ (second_is (goal.at.returns-in_default-cds_base-2 c).In-Base-cds_base t h s) (omega arith) (sym (c.cds_base-3.ensures t h s) ∙ c.in_default-cds_base-2.is)
 
 pub returns : goal.returns
 returns c =
     let n = c.if-len-lt3.false in
     let x = two (goal.at.returns c).In-Base-cds_base in
     let l = one x in
-    λ t h s w. c.codon_of-2.ensures ∙ three_bases t (view (start l)) (start l).args.k l.codon_length-len.result (length-is l t w) _ (first_is x t h s) _ (second_is (goal.at.returns c).In-Base-cds_base t h s) _ (omega arith) (sym (c.cds_base-3.ensures t h s) ∙ c.in-Base-cds_base-2.is)
+    λ t h s w. c.codon_of-2.ensures ∙ three_bases t (view (start l)) (start l).args.k l.codon_length-len.result (length_is l t w) _ (first_is x t h s) _ (second_is (goal.at.returns c).In-Base-cds_base t h s) _ (omega arith) (sym (c.cds_base-3.ensures t h s) ∙ c.in-Base-cds_base-2.is)

@@ -14,8 +14,8 @@ use Rattle.footprint.proofs.ends.endpoint_of.Goals.{Start}
 abbrev gs : Start → List Interval
 gs b = lent_gaps b.args.strand b.args.starts.now b.args.ends.now
 
-in-gaps : (b : Start) (i : ℕ) → i + 1 < length b.args.starts.now → i < length (gs b)
-in-gaps b i l = let q = b.requires.starts_len in gap_in b.args.strand b.args.starts.now b.args.ends.now i l (omega arith)
+in_gaps : (b : Start) (i : ℕ) → i + 1 < length b.args.starts.now → i < length (gs b)
+in_gaps b i l = let q = b.requires.starts_len in gap_in b.args.strand b.args.starts.now b.args.ends.now i l (omega arith)
 
 pub loop-i-init : goal.loop-i-init
 loop-i-init c = (omega arith, refl)
@@ -30,14 +30,14 @@ pub returns-then-ends_in : goal.returns-then-ends_in
 returns-then-ends_in c =
     let l = c.loop-i in
     let q = span_of c.args.q in
-    λ t h. rw h (endpoint_stop q (gs (goal.at.returns-then-ends_in c).Start) l.i (in-gaps (goal.at.returns-then-ends_in c).Start l.i (omega arith)) (ap (ends_in q) (sym c.gap_after-gap.ensures.result_value) ∙ sym c.ends_in.ensures ∙ c.if-ends_in.true) ∙ l.invariant.1)
+    λ t h. rw h (endpoint_stop q (gs (goal.at.returns-then-ends_in c).Start) l.i (in_gaps (goal.at.returns-then-ends_in c).Start l.i (omega arith)) (ap (ends_in q) (sym c.gap_after-gap.ensures.result_value) ∙ sym c.ends_in.ensures ∙ c.if-ends_in.true) ∙ l.invariant.1)
 
 pub loop-i-preserved : goal.loop-i-preserved
 loop-i-preserved c =
     let l = c.loop-i in
     let q = span_of c.args.q in (
       omega arith,
-      endpoint_go q (gs (goal.at.loop-i-preserved c).Start) l.i (in-gaps (goal.at.loop-i-preserved c).Start l.i (omega arith)) (ap (ends_in q) (sym c.gap_after-gap.ensures.result_value) ∙ sym c.ends_in.ensures ∙ c.if-ends_in.false) ∙ l.invariant.1,
+      endpoint_go q (gs (goal.at.loop-i-preserved c).Start) l.i (in_gaps (goal.at.loop-i-preserved c).Start l.i (omega arith)) (ap (ends_in q) (sym c.gap_after-gap.ensures.result_value) ∙ sym c.ends_in.ensures ∙ c.if-ends_in.false) ∙ l.invariant.1,
     )
 
 pub returns : goal.returns

@@ -14,8 +14,8 @@ use Rattle.footprint.proofs.windows.spill_of.Goals.{Start}
 abbrev gs : Start → List Interval
 gs b = lent_gaps b.args.strand b.args.starts.now b.args.ends.now
 
-in-gaps : (b : Start) (i : ℕ) → i + 1 < length b.args.starts.now → i < length (gs b)
-in-gaps b i l = let q = b.requires.starts_len in gap_in b.args.strand b.args.starts.now b.args.ends.now i l (omega arith)
+in_gaps : (b : Start) (i : ℕ) → i + 1 < length b.args.starts.now → i < length (gs b)
+in_gaps b i l = let q = b.requires.starts_len in gap_in b.args.strand b.args.starts.now b.args.ends.now i l (omega arith)
 
 pub loop-i-init : goal.loop-i-init
 loop-i-init c = (omega arith, refl, refl)
@@ -45,7 +45,7 @@ pub loop-i-preserved : goal.loop-i-preserved
 loop-i-preserved c =
     let l = c.loop-i in
     let q = interval c.args.from c.args.to in
-    let n = in-gaps (goal.at.loop-i-preserved c).Start l.i (omega arith) in
+    let n = in_gaps (goal.at.loop-i-preserved c).Start l.i (omega arith) in
     let g = c.gap_after-gap.ensures.result_value in (
       omega arith,
       gathered_go donor_window q (gs (goal.at.loop-i-preserved c).Start) l.donor l.i l.invariant.1 n g c.donor_window.ensures c.spills_into.ensures c.either-donor.ensures,

@@ -21,8 +21,8 @@ past_first : (b : Start) → first_start (lent_exons b.args.strand b.args.starts
 past_first b = inside_first (lent_exons b.args.strand b.args.starts.now b.args.ends.now) 0 b.args.p (ascends b.args.strand b.args.starts.now b.args.ends.now b.requires.ready) b.requires.ends_value
 
 -- an interval holds it, so nothing else was found
-not-between : (b : Start) (w : Found) → find_exon_or_intron (lent_exons b.args.strand b.args.starts.now b.args.ends.now) b.args.p ≡ w → is_exon w ≡ true
-not-between b w e =
+not_between : (b : Start) (w : Found) → find_exon_or_intron (lent_exons b.args.strand b.args.starts.now b.args.ends.now) b.args.p ≡ w → is_exon w ≡ true
+not_between b w e =
     ap is_exon (sym e) ∙ found_exon (lent_exons b.args.strand b.args.starts.now b.args.ends.now) b.args.p (ascends b.args.strand b.args.starts.now b.args.ends.now b.requires.ready) (past_first b) ∙ b.requires.ends_value
 
 pub find_exon_or_intron-found-requires : goal.find_exon_or_intron-found-requires
@@ -57,8 +57,8 @@ returns-in-Exon c =
 
 pub returns-in-Intron : goal.returns-in-Intron
 returns-in-Intron c =
-    absurd (true_false (sym (not-between (goal.at.returns-in-Intron c).Start _ (held_intron _ _ _ _ (sym c.find_exon_or_intron-found.ensures.0 ∙ c.in-Intron.is)))))
+    absurd (true_false (sym (not_between (goal.at.returns-in-Intron c).Start _ (held_intron _ _ _ _ (sym c.find_exon_or_intron-found.ensures.0 ∙ c.in-Intron.is)))))
 
 pub returns-in-Outside : goal.returns-in-Outside
 returns-in-Outside c =
-    absurd (true_false (sym (not-between (goal.at.returns-in-Outside c).Start outside (held_outside _ (sym c.find_exon_or_intron-found.ensures.0 ∙ c.in-Outside.is)))))
+    absurd (true_false (sym (not_between (goal.at.returns-in-Outside c).Start outside (held_outside _ (sym c.find_exon_or_intron-found.ensures.0 ∙ c.in-Outside.is)))))

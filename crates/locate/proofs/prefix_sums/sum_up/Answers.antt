@@ -24,20 +24,20 @@ abbrev on : (b : Start) → {P : TranscriptModel → List ℕ → List ℕ → L
 on b f = f b.args.model b.args.exon_starts.now b.args.exon_ends.now b.args.seg_phases.now b.args.seg_exons.now b.args.seg_starts.now b.args.seg_ends.now b.args.selenocysteine.now
 
 -- values stored into an array of zeros
-length-is : (sums : List ℕ) → sums ≡ replicate 513 0 → length sums ≡ 513
-length-is sums z = ap length z ∙ length-replicate {A = ℕ} 513 0
+length_is : (sums : List ℕ) → sums ≡ replicate 513 0 → length sums ≡ 513
+length_is sums z = ap length z ∙ length-replicate {A = ℕ} 513 0
 
 filled_is : (sums after vs : List ℕ) (n : ℕ) → sums ≡ replicate 513 0 → after ≡ stored sums 0 vs → length vs ≡ suc n → n ≤ 512 → after ≡ filled 513 vs
 filled_is sums after vs n z e l f = e ∙ ap (λ (s : List ℕ). stored s 0 vs) z ∙ stored_zeros 513 vs (omega arith)
 
-kept-length : (sums after vs : List ℕ) → sums ≡ replicate 513 0 → after ≡ stored sums 0 vs → length after ≡ 513
-kept-length sums after vs z e = ap length e ∙ length-sets sums 0 vs ∙ length-is sums z
+kept_length : (sums after vs : List ℕ) → sums ≡ replicate 513 0 → after ≡ stored sums 0 vs → length after ≡ 513
+kept_length sums after vs z e = ap length e ∙ length-sets sums 0 vs ∙ length_is sums z
 
 pub store_sums-requires : goal.store_sums-requires
 store_sums-requires c =
     let k = on (goal.at.store_sums-requires c).Start ad c.requires.fact_2 in
     let f = k.few in
-    let z = length-is c.args.cumulative_exons.now c.requires.fact_1.0 in
+    let z = length_is c.args.cumulative_exons.now c.requires.fact_1.0 in
     let s = sizes_bound c.args.model.strand (exons_of c.args.exon_starts.now c.args.exon_ends.now) k.edges k.order in
     record { starts_len = (k.even, omega arith); ends_value = k.edges; ends_bound = omega arith }
 
@@ -45,7 +45,7 @@ pub store_sums-requires-2 : goal.store_sums-requires-2
 store_sums-requires-2 c =
     let k = on (goal.at.store_sums-requires-2 c).Start ad c.requires.fact_2 in
     let f = k.few_segments in
-    let z = length-is c.args.cumulative_cds.now c.requires.fact_1.1 in
+    let z = length_is c.args.cumulative_cds.now c.requires.fact_1.1 in
     let s = sizes_bound c.args.model.strand (exons_of c.args.seg_starts.now c.args.seg_ends.now) k.segment_edges k.segment_order in
     let p = pad_low c.args.seg_phases.now in
     let e = c.pad_of-pad.ensures in
@@ -66,7 +66,7 @@ returns c =
         filled_is c.args.cumulative_cds.now t.new.sums ys (length c.args.seg_starts.now) c.requires.fact_1.1 t.ensures m k.few_segments ∙ on (goal.at.returns c).Start cds_array c.requires.fact_2 pad.result pad.ensures,
       );
       cumulative_exons_len = (
-        kept-length c.args.cumulative_exons.now s.new.sums xs c.requires.fact_1.0 s.ensures,
-        kept-length c.args.cumulative_cds.now t.new.sums ys c.requires.fact_1.1 t.ensures,
+        kept_length c.args.cumulative_exons.now s.new.sums xs c.requires.fact_1.0 s.ensures,
+        kept_length c.args.cumulative_cds.now t.new.sums ys c.requires.fact_1.1 t.ensures,
       );
     }

@@ -6,17 +6,17 @@ use Rattle.locate.proofs.search.find_exon_or_intron.Goals as goal
 use Rattle.locate.proofs.search.find_exon_or_intron.Goals.{After-started-n}
 
 -- the base is not before the first start, so an exon has started
-some-started : (c : After-started-n) → 1 ≤ c.started-n.result
-some-started c =
+some_started : (c : After-started-n) → 1 ≤ c.started-n.result
+some_started c =
     let s = c.started-n in
     found_some c.args.strand c.args.starts.now c.args.ends.now c.requires.ready c.args.p s.result s.ensures.0 s.ensures.1 c.requires.ends_bound
 
 pub overflow_sub-i : goal.overflow_sub-i
-overflow_sub-i c = some-started (goal.at.overflow_sub-i c).After-started-n
+overflow_sub-i c = some_started (goal.at.overflow_sub-i c).After-started-n
 
 pub returns-then-p-past : goal.returns-then-p-past
 returns-then-p-past c =
-    let k = some-started (goal.at.returns-then-p-past c).After-started-n in
+    let k = some_started (goal.at.returns-then-p-past c).After-started-n in
     let s = c.started-n in
     let n = count c.args.strand c.args.starts.now c.args.ends.now c.requires.ready in
     let h = s.ensures.1.before (s.result - 1) (omega arith) in
@@ -26,7 +26,7 @@ returns-then-p-past c =
 
 pub returns-then-n-starts : goal.returns-then-n-starts
 returns-then-n-starts c =
-    let k = some-started (goal.at.returns-then-n-starts c).After-started-n in
+    let k = some_started (goal.at.returns-then-n-starts c).After-started-n in
     let s = c.started-n in
     let n = count c.args.strand c.args.starts.now c.args.ends.now c.requires.ready in
     let h = s.ensures.1.after s.result (omega arith) (omega arith) in
@@ -36,6 +36,6 @@ returns-then-n-starts c =
 
 pub returns : goal.returns
 returns c =
-    let k = some-started (goal.at.returns c).After-started-n in
+    let k = some_started (goal.at.returns c).After-started-n in
     let s = c.started-n in
     (found_past c.args.strand c.args.starts.now c.args.ends.now c.requires.ready c.args.p s.result s.ensures.0 s.ensures.1 (s.result - 1) (omega arith) (omega arith) (omega arith), tt)

@@ -9,7 +9,7 @@ use Rattle.transcript.specs.Bases.{inside_any}
 use Rattle.transcript.specs.code.Lent.{lent_exons}
 use Rattle.common.proofs.Filling.{front_step, front_done, map_at}
 use Rattle.locate.proofs.CodedBases.{base_inside, ready_coded}
-use Rattle.locate.proofs.selenocysteine.selenocysteine_codons.Invariants.{number, numbersOf}
+use Rattle.locate.proofs.selenocysteine.selenocysteine_codons.Invariants.{number, numbers_of}
 use Rattle.locate.proofs.selenocysteine.selenocysteine_codons.Goals as goal
 
 pub loop-i-init : goal.loop-i-init
@@ -32,7 +32,7 @@ pub loop-i-preserved : goal.loop-i-preserved
 loop-i-preserved c =
     let l = c.loop-i in
     let f = c.requires.few_bases in
-    let vs = numbersOf c.args.strand c.args.starts.now c.args.ends.now c.args.sums.now c.args.bases.now in
+    let vs = numbers_of c.args.strand c.args.starts.now c.args.ends.now c.args.sums.now c.args.bases.now in
     let n = length-map c.args.bases.now (orient_base c.args.strand) in
     let m = length-map (map (orient_base c.args.strand) c.args.bases.now) (number c.args.strand c.args.starts.now c.args.ends.now c.args.sums.now) in
     let o = c.base_of-p.ensures in
@@ -45,7 +45,7 @@ loop-i-preserved c =
 pub returns : goal.returns
 returns c =
     let l = c.loop-i in
-    let vs = numbersOf c.args.strand c.args.starts.now c.args.ends.now c.args.sums.now c.args.bases.now in
+    let vs = numbers_of c.args.strand c.args.starts.now c.args.ends.now c.args.sums.now c.args.bases.now in
     let n = length-map c.args.bases.now (orient_base c.args.strand) in
     let m = length-map (map (orient_base c.args.strand) c.args.bases.now) (number c.args.strand c.args.starts.now c.args.ends.now c.args.sums.now) in
     l.invariant.1 ∙ front_done vs 64 l.i (omega arith) (omega arith)

@@ -14,11 +14,11 @@ use Rattle.locate.proofs.selenocysteine.selenocysteine_codons.Given as goal
 abbrev pub number : Strand → List ℕ → List ℕ → List ℕ → ℕ → ℕ
 number strand starts ends sums b = (first_sum sums + bases_in (lent_exons strand starts ends) 0 b) / 3 + 1
 
-abbrev pub numbersOf : Strand → List ℕ → List ℕ → List ℕ → List ℕ → List ℕ
-numbersOf strand starts ends sums bases = map (number strand starts ends sums) (map (orient_base strand) bases)
+abbrev pub numbers_of : Strand → List ℕ → List ℕ → List ℕ → List ℕ → List ℕ
+numbers_of strand starts ends sums bases = map (number strand starts ends sums) (map (orient_base strand) bases)
 
 abbrev pub invariant-loop-i : goal.invariant-loop-i
-invariant-loop-i l = (l.i ≤ length l.bases) × (l.numbers ≡ front (numbersOf l.strand l.starts l.ends l.sums l.bases) 64 l.i)
+invariant-loop-i l = (l.i ≤ length l.bases) × (l.numbers ≡ front (numbers_of l.strand l.starts l.ends l.sums l.bases) 64 l.i)
 
 abbrev pub decreases-loop-i : goal.decreases-loop-i
 decreases-loop-i l = length l.bases - l.i

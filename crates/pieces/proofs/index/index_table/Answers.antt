@@ -43,14 +43,14 @@ at c =
 ends : (c : After-rows_at-to) → (c.rows_at-to.result.exons ≤ 4096) × (c.rows_at-to.result.bounds ≤ 4096) × (c.rows_at-to.result.segments ≤ 4096) × (c.rows_at-to.result.bases ≤ 4096)
 ends c = let i = (at c).1 in let f = i.1 in let g = i.2 in let h = i.3 in let j = i.4 in (omega arith, omega arith, omega arith, omega arith)
 
-empty-sums : length empty_index.sums ≡ 4096
+empty_sums : length empty_index.sums ≡ 4096
 unfolding empty_index
-empty-sums = length-replicate {A = ℕ} 4096 0
+empty_sums = length-replicate {A = ℕ} 4096 0
 
 pub loop-to-init : goal.loop-to-init
 loop-to-init c =
     let t = table (goal.at.loop-to-init c).Start in
-    let l = ap (λ (x : TableIndex). length x.sums) c.requires.sums_value ∙ empty-sums in
+    let l = ap (λ (x : TableIndex). length x.sums) c.requires.sums_value ∙ empty_sums in
     (l, omega arith, c.requires.all_admitted, ap (index_rows t 0 (transcript_rows t)) c.requires.sums_value)
 
 pub is_transcript-requires : goal.is_transcript-requires

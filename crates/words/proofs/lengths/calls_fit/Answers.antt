@@ -8,8 +8,8 @@ use Rattle.common.proofs.TestParts.{on_test}
 use Rattle.words.proofs.lengths.calls_fit.Goals as goal
 
 -- a length that 20 divides
-times-20 : (k n : ℕ) → k % 20 ≡ 0 → eqb (k / 20) n ≡ eqb k (20 * n)
-times-20 k n h = on_test (eqb (k / 20) n)
+times_20 : (k n : ℕ) → k % 20 ≡ 0 → eqb (k / 20) n ≡ eqb k (20 * n)
+times_20 k n h = on_test (eqb (k / 20) n)
     (λ e. e ∙ sym (eq-eqb k (20 * n) (let q = eqb-true (k / 20) n e in omega arith)))
     (λ e. e ∙ sym (ne_eqb k (20 * n) (λ z. (let q = eqb-false (k / 20) n e in omega arith))))
 
@@ -34,4 +34,4 @@ returns c =
     let x = c.args in
     let n = length x.positions.now in
     rw (eq-eqb (length x.chromosomes.now) n c.if-chromosomes-n.false, eq-eqb (length x.refs.now) n c.if-refs-n.false, eq-eqb (length x.alts.now) n c.if-alts-n.false)
-    (times-20 (length x.out.now) n c.if-out-ne0.false)
+    (times_20 (length x.out.now) n c.if-out-ne0.false)
