@@ -14,26 +14,21 @@ use Rattle.common.specs.Lists.{any, memb}
 use Rattle.common.proofs.TestParts.{or_false, or_right, same_test, on_test, true_false}
 
 any_cons : {A : Type 0} (f : A → Bool) (x : A) (xs : List A) → any f (x ∷ xs) ≡ (f x || any f xs)
-unfolding any
 any_cons f x xs = refl
 
 any_nil : {A : Type 0} (f : A → Bool) → any f [] ≡ false
-unfolding any
 any_nil f = refl
 
 -- no element passes: not the first, none of the others
 pub any_none : {A : Type 0} (f : A → Bool) (x : A) (xs : List A) → any f (x ∷ xs) ≡ false → (f x ≡ false) × (any f xs ≡ false)
-unfolding any
 any_none f x xs h = or_false (f x) (any f xs) h
 
 -- one test for another that agrees with it everywhere
 pub any_same : {A : Type 0} (f g : A → Bool) (xs : List A) → ((x : A) → f x ≡ g x) → any f xs ≡ any g xs
-unfolding any
 any_same f g [] h = refl
 any_same f g (x ∷ xs) h = rw (h x, any_same f g xs h)
 
 pub any_map : {A B : Type 0} (f : B → Bool) (g : A → B) (xs : List A) → any f (map g xs) ≡ any (λ (x : A). f (g x)) xs
-unfolding any
 any_map f g [] = refl
 any_map f g (x ∷ xs) = rw (any_map f g xs)
 
@@ -55,13 +50,11 @@ any_end {A} f xs i e = ap (λ (l : List A). any f l) (ap (λ (k : ℕ). drop k x
 -- of elements of which at most one, at index j, passes
 module _ {A : Type 0} (f : A → Bool) where
   any_at : (xs : List A) (j : ℕ) (d : A) → j < length xs → f (get_or xs j d) ≡ true → any f xs ≡ true
-  unfolding any
   any_at [] j d l h = absurd (omega arith)
   any_at (x ∷ xs) zero d l h = rw h
   any_at (x ∷ xs) (suc j) d l h = or_right (f x) (any f xs) (any_at xs j d (omega arith) h)
 
   pub any_off : (xs : List A) (d : A) → ((k : ℕ) → k < length xs → f (get_or xs k d) ≡ true → ⊥) → false ≡ any f xs
-  unfolding any
   any_off [] d h = refl
   any_off (x ∷ xs) d h = on_test (f x)
       (λ t. absurd (h 0 (omega arith) t))
@@ -75,7 +68,6 @@ module _ {A : Type 0} (f : A → Bool) where
 module _ (f : ℕ → Bool) where
   -- a test that some number of a list passes is passed by one that stands in it, and the reverse
   any_finds : (l : List ℕ) → any f l ≡ true → (b : ℕ) × (memb b l ≡ true) × (f b ≡ true)
-  unfolding any
   any_finds [] h = absurd (true_false (sym h))
   any_finds (x ∷ l) h =
       on_test (f x)
@@ -83,7 +75,6 @@ module _ (f : ℕ → Bool) where
       (λ e. let s = any_finds l (rw e at h) in (s.0, or_right (eqb s.0 x) (memb s.0 l) s.1, s.2))
 
   any_holds : (l : List ℕ) (b : ℕ) → memb b l ≡ true → f b ≡ true → any f l ≡ true
-  unfolding any
   any_holds [] b m h = m
   any_holds (x ∷ l) b m h =
       on_test (eqb b x)

@@ -6,7 +6,7 @@ use mathlib.Core.List.{List, [], ◌∷◌, ◌++◌}
 use native.Mathlib.Omega.{arith}
 use native.Mathlib.Numerals.{add-one}
 use lib.ListN.{length, get_or, take, drop, set, replicate, length-append, length-set, length-replicate}
-use lib.Seq.{sets, sets-eq, length-sets, length-take-le, set_out, take-suc, take-length, get_or-set_same, get_or-set_other}
+use lib.Seq.{sets, sets-eq, length-sets, length-take-le, set_out, take-suc, get_or-set_same, get_or-set_other}
 use Rattle.common.specs.Stored.{stored, Pushed, filled}
 
 sets_append : (l : List ℕ) (i : ℕ) (xs ys : List ℕ) → sets l i (xs ++ ys) ≡ sets (sets l i xs) (i + length xs) ys
@@ -39,16 +39,9 @@ pushed_length {l} {n} {i} {k} {xs} p = ap length p.bytes ∙ length-sets l i xs
 pub pushed_more : {l m n : List ℕ} {i j k : ℕ} (text : List ℕ) (at : ℕ) → at < length text → Pushed l i (take at text) m j → Pushed m j (get_or text at 0 ∷ []) n k → Pushed l i (take (at + 1) text) n k
 pushed_more {l} {m} {n} {i} {j} {k} text at h p q = rw (add-one, take-suc text at 0 h) (pushed_on p q)
 
-pub pushed_whole : {l n : List ℕ} {i k : ℕ} (text : List ℕ) (at : ℕ) → at ≡ length text → Pushed l i (take at text) n k → Pushed l i text n k
-pushed_whole text at e p = rw (e, take-length) at p
-
 -- a text that fits stands whole, with what was before it and behind it
 pub stored_whole : (l : List ℕ) (text : List ℕ) → length text ≤ length l → stored l 0 text ≡ text ++ drop (length text) l
 stored_whole l text h = let e : 0 + length text ≡ length text = omega arith in sets-eq text l 0 (omega arith) ∙ rw e
-
-pub stored_empty : (i : ℕ) (text : List ℕ) → stored [] i text ≡ []
-stored_empty i [] = refl
-stored_empty i (x ∷ xs) = stored_empty (suc i) xs
 
 -- one number more of a list
 pub stored_more : (l : List ℕ) (at : ℕ) (vs : List ℕ) (i v : ℕ) → i < length vs → v ≡ get_or vs i 0 → set (stored l at (take i vs)) (at + i) v ≡ stored l at (take (i + 1) vs)

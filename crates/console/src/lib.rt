@@ -6,18 +6,11 @@ ghost use Rattle.console.specs.Counts.{IsPrefixLen};
 
 use std::io::Read;
 
-// 4,096 zeros.
-pub fn buffer() -> [u8; 4096]
-    ensures { 4096 ≡ length result }
+// N zeros.
+pub fn buffer<const N: usize>() -> [u8; N]
+    ensures { N ≡ length result }
 {
-    [0; 4096]
-}
-
-// 65,536 zeros, for much data.
-pub fn large_buffer() -> [u8; 65536]
-    ensures { 65536 ≡ length result }
-{
-    [0; 65536]
+    [0; N]
 }
 
 // Prints the bytes. Answers whether all are printed: nothing is printed behind a write that failed or took none.
@@ -30,7 +23,8 @@ pub fn print_decimal(to: &impl Print, n: u64) -> bool {
     to.print(n).is_ok()
 }
 
-// Reads until the buffer is full, the input ends or a read fails, and gives how many bytes it put at the start of the buffer.
+// Reads until the buffer is full, the input ends or a read fails, and gives how many bytes it put at the start of the buffer: std's
+// `read_exact` does not tell how many came before the end.
 pub fn read_full(from: &mut impl Read, into: &mut [u8]) -> usize
     ensures { IsPrefixLen result into.new }
 {

@@ -1,6 +1,6 @@
 -- Each return is one law of `digits`.
 use Rattle.std.proofs.Common.{◌-◌, ◌/◌, arith}
-use Rattle.common.proofs.Stored.{pushed_none, pushed_on, pushed_length}
+use Rattle.common.proofs.Stored.{pushed_none, pushed_on}
 use Rattle.common.proofs.Digits.{digits_none, digits_last, digits_more, digits_length}
 use Rattle.common.proofs.text.+push_digits.Goals as goal
 
@@ -15,12 +15,6 @@ push_byte-requires-2 t c =
     let e = c.push_digits-to.ensures.behind in
     let l = digits_length (c.args.places - 1) (c.args.n / 10) in
     omega arith
-
-pub shape_of-out-then-n-lt10 : goal.shape_of-out-then-n-lt10
-shape_of-out-then-n-lt10 t c = pushed_length c.push_byte.ensures
-
-pub shape_of-out : goal.shape_of-out
-shape_of-out t c = omega (arith, pushed_length c.push_byte-2.ensures, pushed_length c.push_digits-to.ensures)
 
 pub returns : goal.returns
 returns t c = rw (digits_more c.args.places c.args.n (omega arith) (omega arith)) (pushed_on c.push_digits-to.ensures c.push_byte-2.ensures)
