@@ -4,20 +4,21 @@ use Prim.Native.Nat.{ℕ, ◌<◌}
 use mathlib.Core.Path.{◌≡◌, sym, ◌∙◌, ap}
 use mathlib.Core.Bool.{Bool, true, false, cond}
 use mathlib.Core.List.{List}
+use Rattle.std.proofs.Common.{None}
 use lib.Dec.{eqb}
 use Rattle.common.proofs.Table.{entry_at}
 use Rattle.codon.specs.declared.Codon.{Codon}
 use Rattle.codon.specs.Bases.{base_number}
 use Rattle.codon.specs.Table.{codon_to_index, reference_letter, translate_codon, translate_reference_codon, build_alt_codon}
-use Rattle.codon.specs.claims.BaseNumbers.{number_by_letter, former_numbers, former_letter, OfBytes, NumbersByLetter, NoNumberChanges, NoLetterChanges}
+use Rattle.codon.specs.claims.BaseNumbers.{number_by_letter, former_numbers, former_number, former_letter, OfBytes, NumbersByLetter, NoNumberChanges, NoLetterChanges}
 
 pub numbers_by_letter : NumbersByLetter
 unfolding base_number number_by_letter
-numbers_by_letter b h = sym (entry_at base_number 256 b h) ∙ entry_at number_by_letter 256 b h
+numbers_by_letter b h = sym (entry_at base_number 256 b h None) ∙ entry_at number_by_letter 256 b h None
 
 pub no_number_changes : NoNumberChanges
 unfolding base_number former_numbers
-no_number_changes b h = sym (entry_at base_number 256 b h)
+no_number_changes b h = sym (entry_at base_number 256 b h None) ∙ entry_at former_number 256 b h None
 
 same_letter : (table : List ℕ) (c : Codon) → OfBytes c → translate_codon table c ≡ former_letter table c
 unfolding translate_codon codon_to_index

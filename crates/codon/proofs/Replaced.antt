@@ -1,95 +1,96 @@
 -- From an entry of the table of altered letters to the letter of the codon with one base replaced.
 -- Assumes nothing.
-use Prim.Native.Nat.{ℕ, zero, suc, ◌+◌, ◌*◌, ◌/◌, ◌%◌, ◌≤◌, ◌<◌}
-use mathlib.Core.Path.{◌≡◌, refl, sym, ◌∙◌, ap}
-use mathlib.Core.Bool.{Bool, true, false, cond}
-use mathlib.Core.List.{List}
+use Rattle.std.proofs.Common.{ℕ, zero, suc, ◌+◌, ◌*◌, ◌/◌, ◌%◌, ◌≤◌, ◌<◌, ◌≡◌, refl, ◌∙◌, ap, Bool, true, false, cond, List, Some, None, arith}
 use lib.Dec.{eqb}
-use native.Mathlib.Omega.{arith}
 use borrow.Author.Tests.{ne_eqb}
 use Rattle.codon.specs.declared.Codon.{Codon}
-use Rattle.codon.specs.declared.table.CodonIndex.TheVariants.{Numbered, NoCodon}
 use Rattle.codon.specs.Bases.{base_number, base_byte}
 use Rattle.codon.specs.Table.{codon_to_index, letter_at, translate_codon, build_alt_codon}
 use Rattle.codon.specs.Altered.{codon_numbered, altered_letter}
-use Rattle.codon.proofs.Index.{byte_number, Found, found_place, never, found, not_found, codon_below}
+use Rattle.codon.proofs.Index.{byte_number, number_below, Found, found_place, found, not_found}
 
 -- A, which stands for the base at the place
-a_number : base_number 65 ≡ 0
+a_number : base_number 65 ≡ Some 0
 unfolding base_number
 a_number = refl
 
-a_base : base_number 65 < 4
-a_base = let a = a_number in omega arith
+module _ (c : Codon) (b n k : ℕ) (hb : base_number b ≡ Some k) where
+  below : k < 4
+  below = rw hb at (number_below b)
 
-same_place : {c d : Codon} (n : ℕ) → Found c n → Found d n → codon_to_index c ≡ codon_to_index d
-same_place n f g = found_place f ∙ sym (found_place g)
-
-module _ (c : Codon) (b n k : ℕ) (hk : k < 4) (hb : base_number b ≡ k) where
   -- the codon at place n with base k put in stands where c with b put in stands
   replaced :
       (place : ℕ) → place ≤ 2 → n < 64 → Found c n →
       codon_to_index (build_alt_codon (codon_numbered n) place (base_byte k)) ≡ codon_to_index (build_alt_codon c place b)
-  unfolding build_alt_codon
+  unfolding codon_to_index build_alt_codon
   replaced zero h hn f =
-      let i = byte_number k hk in
-      let y = byte_number (n / 4 % 4) (omega arith) in
-      let z = byte_number (n % 4) (omega arith) in
-      let g = f.place in
-      same_place (k * 16 + n / 4 % 4 * 4 + n % 4)
-      (record { first = omega arith; second = omega arith; third = omega arith; place = omega arith })
-      (record { first = omega arith; second = f.second; third = f.third; place = omega arith })
+      let y : n / 4 % 4 < 4 = omega arith in
+      let z : n % 4 < 4 = omega arith in
+      rw (byte_number k below, byte_number (n / 4 % 4) y, byte_number (n % 4) z, hb, f.second, f.third)
   replaced (suc zero) h hn f =
-      let x = byte_number (n / 16) (omega arith) in
-      let i = byte_number k hk in
-      let z = byte_number (n % 4) (omega arith) in
-      let g = f.place in
-      same_place (n / 16 * 16 + k * 4 + n % 4)
-      (record { first = omega arith; second = omega arith; third = omega arith; place = omega arith })
-      (record { first = f.first; second = omega arith; third = f.third; place = omega arith })
+      let x : n / 16 < 4 = omega arith in
+      let z : n % 4 < 4 = omega arith in
+      rw (byte_number (n / 16) x, byte_number k below, byte_number (n % 4) z, f.first, hb, f.third)
   replaced (suc (suc zero)) h hn f =
-      let x = byte_number (n / 16) (omega arith) in
-      let y = byte_number (n / 4 % 4) (omega arith) in
-      let i = byte_number k hk in
-      let g = f.place in
-      same_place (n / 16 * 16 + n / 4 % 4 * 4 + k)
-      (record { first = omega arith; second = omega arith; third = omega arith; place = omega arith })
-      (record { first = f.first; second = f.second; third = omega arith; place = omega arith })
+      let x : n / 16 < 4 = omega arith in
+      let y : n / 4 % 4 < 4 = omega arith in
+      rw (byte_number (n / 16) x, byte_number (n / 4 % 4) y, byte_number k below, f.first, f.second, hb)
   replaced (suc (suc (suc place))) h hn f = absurd (omega arith)
 
   -- the entry of a codon, a place and a base is the letter of the codon with the base there
   pub altered_is :
-      (table : List ℕ) (place : ℕ) → place ≤ 2 → codon_to_index c ≡ Numbered n →
+      (table : List ℕ) (place : ℕ) → place ≤ 2 → codon_to_index c ≡ Some n →
       altered_letter table (n * 12 + place * 4 + k) ≡ translate_codon table (build_alt_codon c place b)
   unfolding altered_letter translate_codon
   altered_is table place h e =
+      let hk : k < 4 = below in
       let x : (n * 12 + place * 4 + k) / 12 ≡ n = omega arith in
       let y : (n * 12 + place * 4 + k) / 4 % 3 ≡ place = omega arith in
       let z : (n * 12 + place * 4 + k) % 4 ≡ k = omega arith in
-      rw (x, y, z) (ap (letter_at table) (replaced place h (codon_below c n e) (found c n e)))
+      let f = found c n e in
+      rw (x, y, z) (ap (letter_at table) (replaced place h f.below f))
+
+-- a place is not none
+refuted : (d : Codon) (n : ℕ) → codon_to_index d ≡ None → Found d n → ⊥
+refuted d n e f = let p = found_place f in cc
 
 -- a codon that is none stays none, whatever is put in where a base stood
 pub altered_none :
-    (c : Codon) (place b : ℕ) → place ≤ 2 → codon_to_index (build_alt_codon c place 65) ≡ NoCodon →
-    codon_to_index (build_alt_codon c place b) ≡ NoCodon
+    (c : Codon) (place b : ℕ) → place ≤ 2 → codon_to_index (build_alt_codon c place 65) ≡ None →
+    codon_to_index (build_alt_codon c place b) ≡ None
 unfolding build_alt_codon
-altered_none c zero b h e =
-    not_found (build_alt_codon c 0 b)
-    (λ n f. never (sym e ∙ found_place (record { first = a_base; second = f.second; third = f.third; place = refl })))
-altered_none c (suc zero) b h e =
-    not_found (build_alt_codon c 1 b)
-    (λ n f. never (sym e ∙ found_place (record { first = f.first; second = a_base; third = f.third; place = refl })))
-altered_none c (suc (suc zero)) b h e =
-    not_found (build_alt_codon c 2 b)
-    (λ n f. never (sym e ∙ found_place (record { first = f.first; second = f.second; third = a_base; place = refl })))
+altered_none c zero b h e = not_found (build_alt_codon c 0 b) (λ n f.
+    let l = f.below in
+    refuted (build_alt_codon c 0 65) (n % 16) e (record {
+      first = a_number ∙ ap Some (omega arith);
+      second = f.second ∙ ap Some (omega arith);
+      third = f.third ∙ ap Some (omega arith);
+      below = omega arith;
+    }))
+altered_none c (suc zero) b h e = not_found (build_alt_codon c 1 b) (λ n f.
+    let l = f.below in
+    refuted (build_alt_codon c 1 65) (n / 16 * 16 + n % 4) e (record {
+      first = f.first ∙ ap Some (omega arith);
+      second = a_number ∙ ap Some (omega arith);
+      third = f.third ∙ ap Some (omega arith);
+      below = omega arith;
+    }))
+altered_none c (suc (suc zero)) b h e = not_found (build_alt_codon c 2 b) (λ n f.
+    let l = f.below in
+    refuted (build_alt_codon c 2 65) (n / 4 * 4) e (record {
+      first = f.first ∙ ap Some (omega arith);
+      second = f.second ∙ ap Some (omega arith);
+      third = a_number ∙ ap Some (omega arith);
+      below = omega arith;
+    }))
 altered_none c (suc (suc (suc place))) b h e = absurd (omega arith)
 
 -- a codon with a byte put in that is no base is none
-pub altered_lost : (c : Codon) (place b : ℕ) → place ≤ 2 → 3 < base_number b → codon_to_index (build_alt_codon c place b) ≡ NoCodon
+pub altered_lost : (c : Codon) (place b : ℕ) → place ≤ 2 → base_number b ≡ None → codon_to_index (build_alt_codon c place b) ≡ None
 unfolding build_alt_codon
-altered_lost c zero b h l = not_found (build_alt_codon c 0 b) (λ n f. let x = f.first in omega arith)
-altered_lost c (suc zero) b h l = not_found (build_alt_codon c 1 b) (λ n f. let y = f.second in omega arith)
-altered_lost c (suc (suc zero)) b h l = not_found (build_alt_codon c 2 b) (λ n f. let z = f.third in omega arith)
+altered_lost c zero b h l = not_found (build_alt_codon c 0 b) (λ n f. let x = f.first in cc)
+altered_lost c (suc zero) b h l = not_found (build_alt_codon c 1 b) (λ n f. let x = f.second in cc)
+altered_lost c (suc (suc zero)) b h l = not_found (build_alt_codon c 2 b) (λ n f. let x = f.third in cc)
 altered_lost c (suc (suc (suc place))) b h l = absurd (omega arith)
 
 again : (t : Bool) (x y z : ℕ) → cond t x (cond t y z) ≡ cond t x z

@@ -4,6 +4,7 @@ use Prim.Native.Nat.{ℕ, ◌+◌, ◌*◌, ◌-◌, ◌/◌, ◌%◌, ◌<◌}
 use mathlib.Core.Path.{◌≡◌, ◌∙◌}
 use mathlib.Core.Bool.{cond}
 use mathlib.Core.List.{List}
+use Rattle.std.proofs.Common.{Some}
 use native.Mathlib.Omega.{arith}
 use lib.ListN.{length, get_or, drop, length-drop}
 use lib.Seq.{get_or-drop}
@@ -11,10 +12,9 @@ use lib.Dec.{ltb}
 use borrow.Author.Tests.{lt-ltb, le-ltb}
 use Rattle.codon.specs.declared.Codon.{Codon}
 use Rattle.codon.specs.declared.GeneticCode.{GeneticCode}
-use Rattle.codon.specs.declared.table.CodonIndex.TheVariants.{Numbered}
 use Rattle.codon.specs.Table.{code_table, codon_to_index, translate_codon, build_alt_codon}
 use Rattle.codon.specs.Altered.{altered_letter}
-use Rattle.codon.specs.code.Letters.{entry_by_place, AlteredLetters, BothLetters}
+use Rattle.codon.specs.code.Letters.{entry_by_place, BothLetters}
 use Rattle.codon.proofs.Index.{found}
 use Rattle.codon.proofs.Replaced.{altered_is}
 
@@ -28,24 +28,13 @@ in_order table codon place base hc hb =
     let z : n % 4 ≡ base = omega arith in
     rw (x, y, z)
 
--- the entry of a codon, a place and a base follows the rule
-pub entry_of :
-    {table letters : List ℕ} → AlteredLetters table letters →
-    (codon place base : ℕ) → codon < 64 → place < 3 → base < 4 →
-    get_or letters (place * 256 + codon * 4 + base) 0 ≡ altered_letter table (codon * 12 + place * 4 + base)
-entry_of {table} a codon place base hc hp hb =
-    a.entry (place * 256 + codon * 4 + base) (omega arith) ∙ in_order table codon place base hc hb
-
 -- the entry of a codon with its own third base is the codon's letter
 pub own_is :
-    (table : List ℕ) (c : Codon) (n : ℕ) → codon_to_index c ≡ Numbered n →
+    (table : List ℕ) (c : Codon) (n : ℕ) → codon_to_index c ≡ Some n →
     altered_letter table (n * 12 + 2 * 4 + n % 4) ≡ translate_codon table c
 unfolding build_alt_codon
 own_is table c n e =
-    let f = found c n e in
-    let p = f.place in
-    let t = f.third in
-    altered_is c c.third n (n % 4) (omega arith) (omega arith) table 2 (omega arith) e
+    altered_is c c.third n (n % 4) (found c n e).third table 2 (omega arith) e
 
 -- the letters of both codes in one row
 abbrev pub each_entry : ℕ → ℕ

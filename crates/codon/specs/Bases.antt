@@ -1,5 +1,5 @@
 -- Base numbers and complements of bytes.
-use Rattle.std.specs.Prelude.{ℕ, ◌-◌, ◌/◌, ◌%◌, Bool, cond, ◌||◌, eqb, ltb}
+use Rattle.std.specs.Prelude.{ℕ, ◌-◌, ◌/◌, ◌%◌, Bool, cond, ◌||◌, Option, Some, None, eqb, ltb}
 use Rattle.common.specs.Text.{byte}
 
 -- the byte is A, C, G or T
@@ -10,9 +10,9 @@ is_base b = eqb b (byte "A") || eqb b (byte "C") || eqb b (byte "G") || eqb b (b
 abbrev pub two_bits : ℕ → ℕ
 two_bits b = let n = b / 2 % 4 in cond (ltb n 2) n (5 - n)
 
--- the number of a base, 0 to 3 for A, C, G and T; 4, none, for every other byte
-unfoldable pub base_number : ℕ → ℕ
-base_number b = cond (is_base b) (two_bits b) 4
+-- the number of a base, 0 to 3 for A, C, G and T; none for every other byte
+unfoldable pub base_number : ℕ → Option ℕ
+base_number b = cond (is_base b) (Some (two_bits b)) None
 
 -- the byte of a base number
 unfoldable pub base_byte : ℕ → ℕ

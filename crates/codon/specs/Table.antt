@@ -1,10 +1,8 @@
 -- The letter of a codon. A genetic code is a table of 64 letters.
-use Rattle.std.specs.Prelude.{ℕ, ◌+◌, ◌*◌, Bool, cond, ◌&&◌, List, get_or, eqb, ltb}
+use Rattle.std.specs.Prelude.{ℕ, ◌+◌, ◌*◌, Bool, cond, ◌&&◌, Option, Some, None, List, get_or, eqb}
 use Rattle.common.specs.Text.{byte, bytes}
 use Rattle.codon.specs.declared.Codon.{Codon}
 use Rattle.codon.specs.declared.GeneticCode.{GeneticCode}
-use Rattle.codon.specs.declared.table.CodonIndex.{CodonIndex}
-use Rattle.codon.specs.declared.table.CodonIndex.TheVariants.{Numbered, NoCodon}
 use Rattle.codon.specs.Bases.{base_number}
 
 -- the standard code, NCBI table 1: the letter of a codon stands at 16 * first + 4 * second + third
@@ -20,21 +18,25 @@ abbrev pub code_table : GeneticCode → List ℕ
 code_table GeneticCode.Standard = standard_table
 code_table GeneticCode.VertebrateMitochondrial = mitochondrial_table
 
--- the place of a codon in the table by the numbers of its bytes, none where one is over 3
-abbrev pub index_by : (ℕ → ℕ) → Codon → CodonIndex
-index_by number c =
-    cond (ltb (number c.first) 4 && ltb (number c.second) 4 && ltb (number c.third) 4)
-    (Numbered (number c.first * 16 + number c.second * 4 + number c.third))
-    NoCodon
+-- the place of three base numbers in the table, none where one is
+abbrev pub place_of : Option ℕ → Option ℕ → Option ℕ → Option ℕ
+place_of (Some x) (Some y) (Some z) = Some (x * 16 + y * 4 + z)
+place_of (Some x) (Some y) None = None
+place_of (Some x) None z = None
+place_of None y z = None
+
+-- the place of a codon in the table by the numbers of its bytes
+abbrev pub index_by : (ℕ → Option ℕ) → Codon → Option ℕ
+index_by number c = place_of (number c.first) (number c.second) (number c.third)
 
 -- the place of a codon in the table, none where a byte is not A, C, G or T
-unfoldable pub codon_to_index : Codon → CodonIndex
+unfoldable pub codon_to_index : Codon → Option ℕ
 codon_to_index c = index_by base_number c
 
 -- the letter at a place of the table, X where there is none
-abbrev pub letter_at : List ℕ → CodonIndex → ℕ
-letter_at table (Numbered n) = get_or table n 0
-letter_at table NoCodon = byte "X"
+abbrev pub letter_at : List ℕ → Option ℕ → ℕ
+letter_at table (Some n) = get_or table n 0
+letter_at table None = byte "X"
 
 -- the letter of a codon
 unfoldable pub translate_codon : List ℕ → Codon → ℕ

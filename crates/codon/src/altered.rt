@@ -1,7 +1,6 @@
 // A codon with one base replaced, and the letters of all such codons.
 ghost use Rattle.std.specs.Prelude.{◌≡◌, List, ℕ, ◌+◌, ◌*◌, ◌≤◌, ◌<◌, length};
 ghost use Rattle.codon.specs.declared.Codon.{Codon};
-ghost use Rattle.codon.specs.declared.table.CodonIndex.TheVariants.{Numbered};
 ghost use Rattle.codon.specs.Table.{code_table, codon_to_index, translate_codon, build_alt_codon};
 ghost use Rattle.codon.specs.Altered.{altered_letter};
 ghost use Rattle.codon.specs.code.Letters.{code_number, AlteredLetters, BothLetters};
@@ -30,26 +29,15 @@ QHQHQHQHQHQHQHQHPPPPPPPPPPPPPPPPRRRRRRRRRRRRRRRRLLLLLLLLLLLLLLLLEDEDEDEDEDEDEDED
 GGGGGGGGGGGGGGGGVVVVVVVVVVVVVVVV*Y*Y*Y*Y*Y*Y*Y*YSSSSSSSSSSSSSSSSWCWCWCWCWCWCWCWCLFLFLFLFLFLFLFLF";
 
 // The codon with the base at a place, 0 to 2, replaced; at another place none is.
+#[tactic(auto, unfolding(crate::specs::Table::build_alt_codon))]
 pub fn build_alt_codon(c: Codon, place: u8, b: u8) -> Codon
     ensures { result ≡ build_alt_codon c place b }
 {
-    let mut first = c.first;
-    if place == 0 {
-        first = b;
-    }
-    let mut second = c.second;
-    if place == 1 {
-        second = b;
-    }
-    let mut third = c.third;
-    if place == 2 {
-        third = b;
-    }
     Codon {
-        len: c.len,
-        first,
-        second,
-        third,
+        first: if place == 0 { b } else { c.first },
+        second: if place == 1 { b } else { c.second },
+        third: if place == 2 { b } else { c.third },
+        ..c
     }
 }
 
@@ -65,10 +53,7 @@ pub fn altered_letters() -> [u8; 1536]
 fn letters_from(code: GeneticCode) -> usize
     ensures { result ≡ 768 * code_number code }
 {
-    match code {
-        GeneticCode::Standard => 0,
-        GeneticCode::VertebrateMitochondrial => 768,
-    }
+    code as usize * 768
 }
 
 // The letters of one code.
@@ -93,17 +78,17 @@ pub(crate) fn altered_letter(letters: &[u8], codon: u8, place: u8, base: u8) -> 
 }
 
 // The letter of the codon of that number with the base at a place replaced.
+#[tactic(auto, using(crate::proofs::Index::number_below), unfolding(crate::specs::Table::translate_codon))]
 pub(crate) fn altered_letter_at(letters: &[u8], codon: u8, place: u8, b: u8) -> u8
     requires in_bounds { 768 ≤ length letters.now }
     requires codon_bound { (codon < 64) × (place < 3) }
     ensures { (table : List ℕ) (c : Codon)
         → AlteredLetters table letters.now
-        → codon_to_index c ≡ Numbered codon
+        → codon_to_index c ≡ Some codon
         → result ≡ translate_codon table (build_alt_codon c place b) }
 {
-    let base = base_number(b);
-    if base > 3 {
-        return b'X';
+    match base_number(b) {
+        Some(base) => altered_letter(letters, codon, place, base),
+        None => b'X',
     }
-    altered_letter(letters, codon, place, base)
 }

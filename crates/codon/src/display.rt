@@ -5,11 +5,13 @@ ghost use Rattle.codon.specs.Display.{letters_of};
 use crate::AminoAcids;
 
 // One letter where the two agree, else both.
+#[tactic(auto, unfolding(crate::specs::Display::letters_of))]
 pub fn format_amino_acids(reference: u8, altered: u8) -> AminoAcids
     ensures { result ≡ letters_of reference altered }
 {
     if reference == altered {
-        return AminoAcids::One(reference);
+        AminoAcids::One(reference)
+    } else {
+        AminoAcids::Change(reference, altered)
     }
-    AminoAcids::Change(reference, altered)
 }

@@ -14,14 +14,14 @@ pub use table::{translate_codon, translate_reference_codon};
 pub use translate::{translate_altered_codon, translate_codons};
 
 // NCBI's tables 1 and 2.
-#[derive(Clone, Copy)]
+#[derive(Clone, Copy, PartialEq, Eq, Debug)]
 pub enum GeneticCode {
     Standard,
     VertebrateMitochondrial,
 }
 
 // The bases of one codon in coding order: three, or the one or two of an unfinished last codon. A base that is not there is 0.
-#[derive(Clone, Copy)]
+#[derive(Clone, Copy, PartialEq, Eq, Debug)]
 pub struct Codon {
     pub len: u8,
     pub first: u8,
@@ -30,27 +30,23 @@ pub struct Codon {
 }
 
 // The letters of a reference codon and of that codon with one base replaced.
-#[derive(Clone, Copy)]
+#[derive(Clone, Copy, PartialEq, Eq, Debug)]
 pub struct Letters {
     pub reference: u8,
     pub altered: u8,
 }
 
 // What the codons column shows: the reference and the altered codon, and the place of the changed base.
-#[derive(Clone, Copy)]
-pub enum Codons {
-    Absent,
-    Change {
-        reference: Codon,
-        altered: Codon,
-        place: u8,
-    },
+#[derive(Clone, Copy, PartialEq, Eq, Debug)]
+pub struct Codons {
+    pub reference: Codon,
+    pub altered: Codon,
+    pub place: u8,
 }
 
 // What the letters column shows: one letter, or the reference and the altered letter.
-#[derive(Clone, Copy)]
+#[derive(Clone, Copy, PartialEq, Eq, Debug)]
 pub enum AminoAcids {
-    Absent,
     One(u8),
     Change(u8, u8),
 }

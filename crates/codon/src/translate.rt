@@ -6,26 +6,28 @@ ghost use Rattle.codon.specs.code.Letters.{AlteredLetters};
 use crate::altered::{
     altered_letter, altered_letter_at, altered_letters, build_alt_codon, letters_of,
 };
-use crate::table::{CodonIndex, codon_to_index, reference_letter};
+use crate::table::{codon_to_index, reference_letter};
 use crate::{Codon, GeneticCode, Letters};
 
 // The letter of a codon by its number: that of the codon with its own third base put in.
-fn own_letter(letters: &[u8], c: Codon, index: CodonIndex) -> u8
+#[tactic(auto, using(crate::proofs::Index::codon_below), unfolding(crate::specs::Table::translate_codon))]
+fn own_letter(letters: &[u8], c: Codon, index: Option<u8>) -> u8
     requires in_bounds { 768 ≤ length letters.now }
     requires index_value { index ≡ codon_to_index c }
     ensures { (table : List ℕ)
         → AlteredLetters table letters.now
         → result ≡ translate_codon table c }
 {
-    let CodonIndex::Numbered(n) = index else {
-        return b'X';
-    };
-    altered_letter(letters, n, 2, n % 4)
+    match index {
+        Some(n) => altered_letter(letters, n, 2, n % 4),
+        None => b'X',
+    }
 }
 
 // The letter of the codon of that number with the base at a place replaced. Where a byte of it is no base, the one at the place may be:
 // A stands for it.
-fn letter_put_in(letters: &[u8], c: Codon, index: CodonIndex, place: u8, b: u8) -> u8
+#[tactic(auto, using(crate::proofs::Index::codon_below), unfolding(crate::specs::Table::translate_codon))]
+fn letter_put_in(letters: &[u8], c: Codon, index: Option<u8>, place: u8, b: u8) -> u8
     requires in_bounds { 768 ≤ length letters.now }
     requires index_value { index ≡ codon_to_index c }
     ensures { (table : List ℕ)
@@ -35,17 +37,18 @@ fn letter_put_in(letters: &[u8], c: Codon, index: CodonIndex, place: u8, b: u8) 
     if place > 2 {
         return own_letter(letters, c, index);
     }
-    if let CodonIndex::Numbered(n) = index {
+    if let Some(n) = index {
         return altered_letter_at(letters, n, place, b);
     }
-    let CodonIndex::Numbered(n) = codon_to_index(build_alt_codon(c, place, b'A')) else {
-        return b'X';
-    };
-    altered_letter_at(letters, n, place, b)
+    match codon_to_index(build_alt_codon(c, place, b'A')) {
+        Some(n) => altered_letter_at(letters, n, place, b),
+        None => b'X',
+    }
 }
 
 // The letters of a reference codon and of that codon with the base at a place replaced, by the letters of a genetic code that are lent.
 // Where all three bytes are bases, both are read by one number of the codon.
+#[tactic(auto, unfolding(crate::specs::Table::translate_reference_codon))]
 pub fn translate_codons(letters: &[u8], selenocysteine: bool, c: Codon, place: u8, b: u8) -> Letters
     requires { 768 ≤ length letters.now }
     ensures { (table : List ℕ)

@@ -7,83 +7,68 @@ ghost use Rattle.names.specs.Names.{term_name};
 
 use common::text::push_bytes;
 
-// The name of a rank up to 14. The names stand in two functions, since the check of one for all takes twice as long.
-fn push_to_14(out: &mut [u8], at: usize, rank: u32) -> usize
-    requires fact_1 { at + 64 < 2 ^ 64 }
-    requires fact_2 { rank < 15 }
-    ensures { Pushed out.old at (term_name rank) out.new result }
+// The names of the ranks 1 to 28.
+static TERM_NAMES: [&[u8]; 28] = [
+    b"transcript_ablation",
+    b"transcript_amplification",
+    b"splice_acceptor_variant",
+    b"splice_donor_variant",
+    b"stop_gained",
+    b"frameshift_variant",
+    b"stop_lost",
+    b"start_lost",
+    b"inframe_insertion",
+    b"inframe_deletion",
+    b"missense_variant",
+    b"protein_altering_variant",
+    b"splice_region_variant",
+    b"start_retained_variant",
+    b"stop_retained_variant",
+    b"incomplete_terminal_codon_variant",
+    b"synonymous_variant",
+    b"coding_sequence_variant",
+    b"5_prime_UTR_variant",
+    b"3_prime_UTR_variant",
+    b"non_coding_transcript_exon_variant",
+    b"intron_variant",
+    b"non_coding_transcript_variant",
+    b"upstream_gene_variant",
+    b"downstream_gene_variant",
+    b"feature_truncation",
+    b"feature_elongation",
+    b"intergenic_variant",
+];
+
+// The name of the term of a rank; a number that is no rank has none.
+pub fn term_name(rank: u32) -> &'static [u8]
+    ensures { result.now ≡ term_name rank }
 {
-    match rank {
-        1 => push_bytes(out, at, b"transcript_ablation"),
-        2 => push_bytes(out, at, b"transcript_amplification"),
-        3 => push_bytes(out, at, b"splice_acceptor_variant"),
-        4 => push_bytes(out, at, b"splice_donor_variant"),
-        5 => push_bytes(out, at, b"stop_gained"),
-        6 => push_bytes(out, at, b"frameshift_variant"),
-        7 => push_bytes(out, at, b"stop_lost"),
-        8 => push_bytes(out, at, b"start_lost"),
-        9 => push_bytes(out, at, b"inframe_insertion"),
-        10 => push_bytes(out, at, b"inframe_deletion"),
-        11 => push_bytes(out, at, b"missense_variant"),
-        12 => push_bytes(out, at, b"protein_altering_variant"),
-        13 => push_bytes(out, at, b"splice_region_variant"),
-        14 => push_bytes(out, at, b"start_retained_variant"),
-        _ => at,
+    if rank == 0 || rank > 28 {
+        b""
+    } else {
+        TERM_NAMES[rank as usize - 1]
     }
 }
 
-// The name of a rank from 15 on.
-fn push_from_15(out: &mut [u8], at: usize, rank: u32) -> usize
-    requires fact_1 { at + 64 < 2 ^ 64 }
-    requires fact_2 { 14 < rank }
-    ensures { Pushed out.old at (term_name rank) out.new result }
-{
-    match rank {
-        15 => push_bytes(out, at, b"stop_retained_variant"),
-        16 => push_bytes(out, at, b"incomplete_terminal_codon_variant"),
-        17 => push_bytes(out, at, b"synonymous_variant"),
-        18 => push_bytes(out, at, b"coding_sequence_variant"),
-        19 => push_bytes(out, at, b"5_prime_UTR_variant"),
-        20 => push_bytes(out, at, b"3_prime_UTR_variant"),
-        21 => push_bytes(out, at, b"non_coding_transcript_exon_variant"),
-        22 => push_bytes(out, at, b"intron_variant"),
-        23 => push_bytes(out, at, b"non_coding_transcript_variant"),
-        24 => push_bytes(out, at, b"upstream_gene_variant"),
-        25 => push_bytes(out, at, b"downstream_gene_variant"),
-        26 => push_bytes(out, at, b"feature_truncation"),
-        27 => push_bytes(out, at, b"feature_elongation"),
-        28 => push_bytes(out, at, b"intergenic_variant"),
-        _ => at,
-    }
-}
-
-// The name of the term of a rank, put into a lent buffer from a position on; the position behind it. A number that is no rank has no name.
+// The name of the term of a rank, put into a lent buffer from a position on; the position behind it.
+#[tactic(auto, using(crate::proofs::Names::name_short))]
 pub fn push_name(out: &mut [u8], at: usize, rank: u32) -> usize
     requires { at + 64 < 2 ^ 64 }
     ensures { Pushed out.old at (term_name rank) out.new result }
 {
-    if rank < 15 {
-        return push_to_14(out, at, rank);
-    }
-    push_from_15(out, at, rank)
+    push_bytes(out, at, term_name(rank))
 }
 
-// The length of that name, measured on an empty buffer; 0 for a number that is no rank.
+// The length of that name; 0 for a number that is no rank.
 pub fn name_length(rank: u32) -> usize
     ensures { result ≡ length (term_name rank) }
 {
-    let mut empty = [0u8; 0];
-    push_name(&mut empty, 0, rank)
+    term_name(rank).len()
 }
 
 // The byte at i of that name; 0 past its end.
 pub fn name_byte(rank: u32, i: usize) -> u8
     ensures { result ≡ get_or (term_name rank) i 0 }
 {
-    let mut name = [0u8; 34];
-    push_name(&mut name, 0, rank);
-    if i >= 34 {
-        return 0;
-    }
-    name[i]
+    term_name(rank).get(i).copied().unwrap_or(0)
 }

@@ -1,17 +1,14 @@
--- One bit of a set: its place, that there is room to add it, that it can be taken away.
+-- One bit of a set: its place, and that it can be taken away.
 -- Assumes nothing.
-use Prim.Native.Nat.{ℕ, zero, suc, ◌+◌, ◌-◌, ◌*◌, ◌/◌, ◌%◌, ◌^◌, ◌≤◌, ◌<◌}
+use Prim.Native.Nat.{ℕ, zero, suc, ◌*◌, ◌/◌, ◌%◌, ◌^◌, ◌≤◌, ◌<◌}
 use mathlib.Core.Path.{◌≡◌, sym, ◌∙◌, ap}
-use mathlib.Core.Bool.{true, false}
 use native.Mathlib.Omega.{arith}
 use native.Mathlib.Nat.{pow-suc, one-mul}
 use native.Mathlib.Numerals.{one-add}
 use lib.Pow.{shr-shr, shl_exact}
-use borrow.Author.Tests.{eqb-true, eqb-false}
 use Rattle.terms.specs.declared.Consequence.{Consequence}
 use Rattle.terms.specs.declared.Consequence.TheVariants.{TranscriptAblation, TranscriptAmplification, SpliceAcceptorVariant, SpliceDonorVariant, StopGained, FrameshiftVariant, StopLost, StartLost, InframeInsertion, InframeDeletion, MissenseVariant, ProteinAlteringVariant, SpliceRegionVariant, StartRetainedVariant, StopRetainedVariant, IncompleteTerminalCodonVariant, SynonymousVariant, CodingSequenceVariant, FivePrimeUtrVariant, ThreePrimeUtrVariant, NonCodingTranscriptExonVariant, IntronVariant, NonCodingTranscriptVariant, UpstreamGeneVariant, DownstreamGeneVariant, FeatureTruncation, FeatureElongation, IntergenicVariant}
 use Rattle.terms.specs.Severity.{severity_rank}
-use Rattle.terms.specs.Terms.{only, holds_term}
 
 -- a rank is 1 to 28
 pub record Rank (n : ℕ) : Type 0 where
@@ -52,33 +49,10 @@ rank IntergenicVariant = omega arith
 pub shifted : (n t : ℕ) → n / 2 ^ suc t ≡ n / 2 / 2 ^ t
 shifted n t = sym (shr-shr n 1 t ∙ ap (λ (e : ℕ). n / 2 ^ e) (one-add t))
 
--- a number with a bit that is not set has room for it
-room : (w t n : ℕ) → t < w → n < 2 ^ w → n / 2 ^ t % 2 ≡ 0 → n + 2 ^ t < 2 ^ w
-room zero t n h l e = absurd (omega arith)
-room (suc w) zero n h l e =
-    let d : n / 1 ≡ n = omega arith in
-    let p = pow-suc 2 w in
-    let e' : n % 2 ≡ 0 = rw d at e in
-    omega arith
-room (suc w) (suc t) n h l e =
-    let p = pow-suc 2 w in
-    let q = pow-suc 2 t in
-    let r = room w t (n / 2) (omega arith) (omega arith) (rw (shifted n t) at e) in
-    omega arith
-
 -- a number with a bit that is set is at least that bit
 pub held : (t n : ℕ) → n / 2 ^ t % 2 ≡ 1 → 2 ^ t ≤ n
 held zero n e = let d : n / 1 ≡ n = omega arith in let e' : n % 2 ≡ 1 = rw d at e in omega arith
 held (suc t) n e = let q = pow-suc 2 t in let r = held t (n / 2) (rw (shifted n t) at e) in omega arith
-
-pub term_room : (s : ℕ) (t : Consequence) → s < 2 ^ 32 → holds_term s t ≡ false → s + only t < 2 ^ 32
-term_room s t l e =
-    let r = rank t in
-    let n = eqb-false (s / only t % 2) 1 e in
-    room 32 (severity_rank t - 1) s (omega arith) l (omega arith)
-
-pub term_held : (s : ℕ) (t : Consequence) → holds_term s t ≡ true → only t ≤ s
-term_held s t e = held (severity_rank t - 1) s (eqb-true (s / only t % 2) 1 e)
 
 -- what the machine's `1 << t` is
 pub bit_is : (t : ℕ) → t < 32 → (1 * 2 ^ t) % 2 ^ 32 ≡ 2 ^ t

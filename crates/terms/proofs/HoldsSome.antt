@@ -8,7 +8,7 @@ use native.Mathlib.Omega.{arith}
 use lib.ListN.{get_or}
 use lib.Dec.{eqb}
 use borrow.Author.Tests.{eqb-true, eq-eqb}
-use Rattle.common.specs.Lists.{any, memb, cons_if}
+use Rattle.common.specs.Lists.{memb, cons_if}
 use Rattle.common.proofs.TestParts.{true_false, on_test, or_right}
 use Rattle.terms.specs.declared.Consequence.{Consequence}
 use Rattle.terms.specs.declared.Consequence.TheVariants.{SpliceAcceptorVariant, SpliceDonorVariant}
@@ -45,7 +45,6 @@ some_spilled false false s h = h
 first_is : (b : Bool) (r x : ℕ) (more : List ℕ) → memb x (cons_if b r more) ≡ true
     → (memb x more ≡ true → (suc r ≤ get_or more 0 0) × (get_or more 0 0 ≤ x))
     → (r ≤ get_or (cons_if b r more) 0 0) × (get_or (cons_if b r more) 0 0 ≤ x)
-unfolding any
 first_is true r x more m f = on_test (eqb x r)
     (λ e. (let q = eqb-true x r e in (omega arith, omega arith)))
     (λ e. (let g = f (rw e at m) in let a = g.0 in let b = g.1 in (omega arith, omega arith)))
@@ -53,7 +52,7 @@ first_is false r x more m f = let g = f m in let a = g.0 in let b = g.1 in (omeg
 
 lowest_first : (k r n x : ℕ) → memb x (ranks_from k r n) ≡ true
     → (r ≤ get_or (ranks_from k r n) 0 0) × (get_or (ranks_from k r n) 0 0 ≤ x)
-unfolding ranks_from any
+unfolding ranks_from
 lowest_first zero r n x h = absurd (true_false (sym h))
 lowest_first (suc k) r n x h = first_is (eqb (n % 2) 1) r x (ranks_from k (suc r) (n / 2)) h (lowest_first k (suc r) (n / 2) x)
 

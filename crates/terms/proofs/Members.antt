@@ -8,7 +8,7 @@ use native.Mathlib.Omega.{arith}
 use native.Mathlib.Nat.{pow-suc}
 use lib.Dec.{eqb}
 use borrow.Author.Tests.{eq-eqb, ne_eqb}
-use Rattle.common.specs.Lists.{any, memb, cons_if}
+use Rattle.common.specs.Lists.{memb, cons_if}
 use Rattle.terms.specs.Severity.{severity_rank}
 use Rattle.terms.specs.Terms.{ranks_from, ranks}
 use Rattle.terms.specs.claims.Held.{RanksHeld, Rising, RanksRise}
@@ -16,7 +16,6 @@ use Rattle.terms.proofs.Bit.{rank}
 use Rattle.terms.proofs.Holding.{bit, bit_low, bit_next}
 
 memb_if : (b : Bool) (x r : ℕ) (xs : List ℕ) → memb x (cons_if b r xs) ≡ ((b && eqb x r) || memb x xs)
-unfolding any
 memb_if true x r xs = refl
 memb_if false x r xs = refl
 
@@ -30,7 +29,7 @@ self false = refl
 
 -- no rank is below the first
 below : (k x r n : ℕ) → x < r → memb x (ranks_from k r n) ≡ false
-unfolding ranks_from any
+unfolding ranks_from
 below zero x r n h = refl
 below (suc k) x r n h =
     memb_if (eqb (n % 2) 1) x r (ranks_from k (suc r) (n / 2))

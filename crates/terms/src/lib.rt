@@ -2,15 +2,17 @@
 #![tactic(auto)]
 
 mod coding;
+mod ranks;
 mod set;
 mod severity;
 
 pub use coding::{coding_term, spill_terms};
+pub use ranks::Ranks;
 
-// The Ontology's terms, most severe first: the names of the Rust, in the order of their severity ranks 1 to 28.
-#[derive(Clone, Copy)]
+// The Ontology's terms, most severe first: the names of the Rust, with their severity ranks 1 to 28.
+#[derive(Clone, Copy, PartialEq, Eq, Debug)]
 pub enum Consequence {
-    TranscriptAblation,
+    TranscriptAblation = 1,
     TranscriptAmplification,
     SpliceAcceptorVariant,
     SpliceDonorVariant,
@@ -41,5 +43,5 @@ pub enum Consequence {
 }
 
 // A set of terms: bit (severity rank - 1) for each.
-#[derive(Clone, Copy)]
+#[derive(Clone, Copy, PartialEq, Eq, Debug)]
 pub struct TermSet(pub u32);

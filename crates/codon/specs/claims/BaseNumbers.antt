@@ -1,19 +1,19 @@
 -- The formula gives the base numbers that stood in a table of 256 entries before it, so no letter changes.
-use Rattle.std.specs.Prelude.{ℕ, ◌-◌, ◌<◌, ◌≡◌, Bool, cond, List, ◌++◌, map, get_or, eqb}
+use Rattle.std.specs.Prelude.{ℕ, ◌-◌, ◌<◌, ◌≡◌, Bool, cond, Option, Some, None, List, ◌++◌, map, get_or, eqb, ltb}
 use Rattle.common.specs.Text.{byte, bytes}
 use Rattle.codon.specs.declared.Codon.{Codon}
 use Rattle.codon.specs.Bases.{base_number}
 use Rattle.codon.specs.Table.{index_by, letter_at, reference_letter, translate_codon, translate_reference_codon, build_alt_codon}
 
--- the number of a base by its letter; 4, none, for every other byte
-unfoldable pub number_by_letter : ℕ → ℕ
+-- the number of a base by its letter; none for every other byte
+unfoldable pub number_by_letter : ℕ → Option ℕ
 number_by_letter b =
-    cond (eqb b (byte "A")) 0
-    (cond (eqb b (byte "C")) 1
-    (cond (eqb b (byte "G")) 2
-    (cond (eqb b (byte "T")) 3 4)))
+    cond (eqb b (byte "A")) (Some 0)
+    (cond (eqb b (byte "C")) (Some 1)
+    (cond (eqb b (byte "G")) (Some 2)
+    (cond (eqb b (byte "T")) (Some 3) None)))
 
--- the former table, a digit for each byte from 0 to 255
+-- the former table, a digit for each byte from 0 to 255: 4 for none
 unfoldable pub former_numbers : List ℕ
 former_numbers =
     map (λ digit. digit - byte "0")
@@ -23,8 +23,8 @@ former_numbers =
     ++ bytes "4444444444444444444444444444444444444444444444444444444444444444")))
 
 -- the number of a byte, and the letter of a codon, by the former table
-abbrev pub former_number : ℕ → ℕ
-former_number b = get_or former_numbers b 0
+abbrev pub former_number : ℕ → Option ℕ
+former_number b = let n = get_or former_numbers b 0 in cond (ltb n 4) (Some n) None
 
 abbrev pub former_letter : List ℕ → Codon → ℕ
 former_letter table c = letter_at table (index_by former_number c)

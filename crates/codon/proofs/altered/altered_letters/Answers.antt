@@ -1,5 +1,5 @@
 -- Every entry is the letter of its codon with its base at its place, in its genetic code: antt computes all 1,536 and compares.
-use mathlib.Core.Path.{refl}
+use Rattle.std.proofs.Common.{refl}
 use Rattle.common.proofs.Table.{entry_at}
 use Rattle.codon.specs.Bases.{base_number, base_byte}
 use Rattle.codon.specs.Table.{standard_table, mitochondrial_table, codon_to_index, translate_codon, build_alt_codon}
@@ -9,4 +9,4 @@ use Rattle.codon.proofs.altered.altered_letters.Goals as goal
 
 pub returns : goal.returns
 unfolding altered_letter translate_codon standard_table mitochondrial_table build_alt_codon codon_to_index base_number base_byte
-returns c = both_letters _ refl (λ n h. entry_at each_entry 1536 n h)
+returns c = both_letters _ refl (λ n h. entry_at each_entry 1536 n h 0)

@@ -1,6 +1,6 @@
 -- There are as many ranks as ones.
 use native.Mathlib.Omega.{arith}
-use Rattle.terms.proofs.Ranks.{rank_count}
+use Rattle.terms.proofs.RankLists.{rank_count}
 use Rattle.terms.proofs.TermSet.count.Goals as goal
 
 pub returns : goal.returns

@@ -9,6 +9,7 @@ use lib.ListN.{length, get_or, drop}
 use lib.Dec.{eqb, eqb-suc-suc, eqb-zero-suc, eqb-suc-zero}
 use lib.Count.{count_trailing_zeros, under, ones, ones_in, ones_step}
 use borrow.Author.Tests.{ne_eqb}
+use Rattle.std.proofs.Common.{List, [], ◌∷◌, Some, None, slice_get, add-one}
 use Rattle.common.specs.Lists.{cons_if}
 use Rattle.terms.specs.Terms.{ranks_from, ranks, most_severe, without_first}
 
@@ -83,3 +84,24 @@ pub ranks_rest : (s : ℕ) → s < 2 ^ 32 → ranks (without_first s) ≡ drop 1
 unfolding without_first
 ranks_rest zero h = empty_rest
 ranks_rest (suc n) h = rw (eqb-suc-zero n, severe_is (suc n) (omega arith) h) (lowest 32 1 (suc n) (omega arith) h).rest
+
+-- the first rank of a set that is not empty
+first_of : (ks : List ℕ) (n : ℕ) → get_or ks 0 0 ≡ suc n → slice_get ks 0 ≡ Some (suc n)
+first_of [] n e = absurd (omega arith)
+first_of (k ∷ ks) n e = ap Some e
+
+pub severe_first : (s : ℕ) → 0 < s → s < 2 ^ 32 → slice_get (ranks s) 0 ≡ Some (count_trailing_zeros 32 s + 1)
+severe_first s g h =
+    let b = (lowest 32 1 s g h).inside in
+    let r : most_severe s ≡ suc (count_trailing_zeros 32 s) =
+    first_rank 32 1 s ∙ rw (ne_eqb (count_trailing_zeros 32 s) 32 (λ e. omega arith)) (omega arith) in
+    rw add-one (first_of (ranks s) (count_trailing_zeros 32 s) r)
+
+pub severe_none : (s : ℕ) → s ≡ 0 → slice_get (ranks s) 0 ≡ None
+unfolding ranks_from
+severe_none s e = rw e
+
+-- a list with a first rank is that rank and the others
+pub first_more : (ks : List ℕ) (k : ℕ) → slice_get ks 0 ≡ Some k → ks ≡ k ∷ drop 1 ks
+first_more [] k e = cc
+first_more (x ∷ ks) k e = let z : x ≡ k = cc in rw z
