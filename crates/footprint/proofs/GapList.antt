@@ -7,22 +7,20 @@ use mathlib.Core.List.{List, [], ◌∷◌}
 use native.Mathlib.Omega.{arith}
 use native.Mathlib.Numerals.{add-one}
 use lib.ListN.{length, get_or, get_or-eq_default}
-use lib.Dec.{leb, ltb}
-use borrow.Author.Tests.{lt-ltb, le-ltb, ltb-false}
+use lib.Dec.{ltb}
+use borrow.Author.Tests.{ltb-false}
 use Rattle.common.specs.Lists.{any}
 use Rattle.common.proofs.TestParts.{or_false}
 use Rattle.common.proofs.Lists.{any_none}
 use Rattle.transcript.specs.declared.Strand.{Strand}
 use Rattle.transcript.specs.Orient.{Interval, interval, orient}
-use Rattle.transcript.specs.Bases.{size, gaps_after, gaps}
+use Rattle.transcript.specs.Bases.{gaps_after, gaps}
 use Rattle.transcript.specs.Limits.{coordinate_limit}
 use Rattle.transcript.specs.Transcript.{exons_of}
 use Rattle.transcript.specs.Admission.{bad_exon}
 use Rattle.transcript.proofs.Listed.{nowhere, exon}
-use Rattle.footprint.specs.Ranges.{frameshift_intron_max_gap}
 use Rattle.transcript.specs.code.Lent.{lent_exons}
 use Rattle.footprint.specs.code.Lent.{lent_gaps}
-use Rattle.footprint.specs.ShortIntron.{is_frameshift_gap}
 
 after_length : (e : ℕ) (xs : List Interval) → length (gaps_after e xs) ≡ length xs
 unfolding gaps_after
@@ -39,14 +37,6 @@ gaps_at [] k l = absurd (omega arith)
 gaps_at (x ∷ []) k l = absurd (omega arith)
 gaps_at (x ∷ y ∷ ys) zero l = refl
 gaps_at (x ∷ y ∷ ys) (suc k) l = gaps_at (y ∷ ys) k (omega arith)
-
--- whether a gap is short
-module _ (gap : Interval) where
-  pub no_gap : gap.end ≤ gap.start → false ≡ is_frameshift_gap gap
-  no_gap h = rw (le-ltb 0 (size gap) (omega arith))
-
-  pub some_gap : gap.start < gap.end → leb (size gap) frameshift_intron_max_gap ≡ is_frameshift_gap gap
-  some_gap h = rw (lt-ltb 0 (size gap) (omega arith))
 
 -- of exons that are lent as two lists; the shorter one decides
 lent_count : (σ : Strand) (ss es : List ℕ) → length (lent_exons σ ss es) ≡ min (length ss) (length es)

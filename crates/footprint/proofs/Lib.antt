@@ -3,6 +3,5 @@ pub mod Endpoints
 pub mod Spills
 pub mod Flanking
 pub mod Asked
-pub mod Numbered
 pub mod BaseSpills
 pub mod NumbersGiven

@@ -13,9 +13,6 @@ use Rattle.transcript.proofs.Listed.{nowhere}
 use Rattle.footprint.specs.ShortIntron.{is_frameshift_gap, overlap, hits, donor_window, acceptor_window, spills_into, exonic_splice_spill}
 
 module _ (q gap window : Interval) where
-  pub touches : overlap q gap ≡ true → false ≡ hits q gap window
-  touches h = rw h
-
   pub apart : overlap q gap ≡ false → overlap q window ≡ hits q gap window
   apart h = rw h
 
@@ -41,7 +38,6 @@ module _ (window : Interval → Interval) (q : Interval) (gs : List Interval) (d
 
 -- no short gap, no spill
 none_short : (g : Interval → Bool) (gs : List Interval) → any is_frameshift_gap gs ≡ false → any (λ x. is_frameshift_gap x && g x) gs ≡ false
-unfolding any
 none_short g [] h = refl
 none_short g (x ∷ gs) h = let n = any_none is_frameshift_gap x gs h in rw n.0 (none_short g gs n.1)
 

@@ -1,7 +1,6 @@
 -- Gaps of 1 to 13 bases: the one that holds an end of an interval, and the splice windows that reach past it into the exons.
-use Rattle.std.specs.Prelude.{ℕ, suc, ◌+◌, ◌-◌, Bool, cond, not, ◌&&◌, ◌||◌, List, [], ◌∷◌, leb, ltb}
+use Rattle.std.specs.Prelude.{ℕ, suc, ◌+◌, ◌-◌, Bool, cond, not, ◌&&◌, ◌||◌, List, [], ◌∷◌, Option, Some, None, leb, ltb}
 use Rattle.common.specs.Lists.{any}
-use Rattle.footprint.specs.declared.Endpoint.{Endpoint}
 use Rattle.footprint.specs.declared.SpliceSpill.{SpliceSpill}
 use Rattle.footprint.specs.Ranges.{splice_canonical_max, frameshift_intron_max_gap}
 use Rattle.transcript.specs.Orient.{Interval, interval, Oriented}
@@ -21,11 +20,11 @@ abbrev pub ends_in : Interval → Interval → Bool
 ends_in q gap = is_frameshift_gap gap && holds_end q gap
 
 -- the index of the first such gap, the first of all having index k
-unfoldable pub endpoint_from : ℕ → Interval → List Interval → Endpoint
-endpoint_from k q [] = Endpoint.Nowhere
-endpoint_from k q (gap ∷ rest) = cond (ends_in q gap) (Endpoint.Intron k) (endpoint_from (suc k) q rest)
+unfoldable pub endpoint_from : ℕ → Interval → List Interval → Option ℕ
+endpoint_from k q [] = None
+endpoint_from k q (gap ∷ rest) = cond (ends_in q gap) (Some k) (endpoint_from (suc k) q rest)
 
-abbrev pub frameshift_intron_endpoint : Oriented → Interval → Endpoint
+abbrev pub frameshift_intron_endpoint : Oriented → Interval → Option ℕ
 frameshift_intron_endpoint t q = endpoint_from 0 q (gaps t.exons)
 
 abbrev pub overlap : Interval → Interval → Bool

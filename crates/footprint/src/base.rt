@@ -2,56 +2,39 @@
 // it, by one base on each side.
 ghost use Rattle.std.specs.Prelude.{◌≡◌, ◌+◌, get_or};
 ghost use Rattle.transcript.specs.Orient.{interval};
-ghost use Rattle.footprint.specs.code.Lent.{span_of, lent_gaps};
+ghost use Rattle.footprint.specs.code.Lent.{span_of, gaps_in};
 ghost use Rattle.footprint.specs.ShortIntron.{donor_window, acceptor_window, spills_into};
 
 use super::gaps::gap_at;
 use super::span::Span;
-use transcript::Strand;
+use transcript::{Intervals, Strand};
 
 // Whether p is the base behind a gap of one base.
 pub(crate) fn hits_donor(gap: Span, p: u64) -> bool
     ensures { result ≡ spills_into donor_window (interval p (p + 1)) (span_of gap) }
 {
-    if gap.end != p {
-        return false;
-    }
-    if p <= gap.start {
-        return false;
-    }
-    p - gap.start == 1
+    gap.end == p && gap.start < p && p - gap.start == 1
 }
 
 // Whether p is the base before a gap of one base.
 pub(crate) fn hits_acceptor(gap: Span, p: u64) -> bool
     ensures { result ≡ spills_into acceptor_window (interval p (p + 1)) (span_of gap) }
 {
-    if gap.start <= p {
-        return false;
-    }
-    if gap.start - p != 1 {
-        return false;
-    }
-    if gap.end <= gap.start {
-        return false;
-    }
-    gap.end - gap.start == 1
+    p < gap.start && gap.start - p == 1 && gap.start < gap.end && gap.end - gap.start == 1
 }
 
 // Whether p hits the donor window of the gap after exon i.
-pub fn donor_spill(starts: &[u64], ends: &[u64], strand: Strand, i: usize, p: u64) -> bool
-    ensures { let gap = get_or (lent_gaps strand starts.now ends.now) i (interval 0 0) in
+pub fn donor_spill(exons: Intervals, strand: Strand, i: usize, p: u64) -> bool
+    ensures { let gap = get_or (gaps_in strand exons.entry) i (interval 0 0) in
         result ≡ spills_into donor_window (interval p (p + 1)) gap }
 {
-    let gap = gap_at(starts, ends, strand, i);
-    hits_donor(gap, p)
+    hits_donor(gap_at(exons, strand, i), p)
 }
 
 // Whether p hits its acceptor window.
-pub fn acceptor_spill(starts: &[u64], ends: &[u64], strand: Strand, i: usize, p: u64) -> bool
-    ensures { let gap = get_or (lent_gaps strand starts.now ends.now) i (interval 0 0) in
+pub fn acceptor_spill(exons: Intervals, strand: Strand, i: usize, p: u64) -> bool
+    ensures { let gap = get_or (gaps_in strand exons.entry) i (interval 0 0) in
         result ≡ spills_into acceptor_window (interval p (p + 1)) gap }
 {
-    let gap = gap_at(starts, ends, strand, i);
-    hits_acceptor(gap, p)
+    hits_acceptor(gap_at(exons, strand, i), p)
 }

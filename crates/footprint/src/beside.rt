@@ -1,17 +1,17 @@
 // Where an interval lies beside a transcript, in oriented coordinates.
 ghost use Rattle.std.specs.Prelude.{◌≡◌, ◌-◌, ◌^◌, ◌<◌};
-ghost use Rattle.transcript.specs.Transcript.{was_given};
+ghost use Rattle.transcript.specs.Transcript.{transcript_of};
 ghost use Rattle.footprint.specs.Ranges.{source_ranges};
 ghost use Rattle.footprint.specs.code.Lent.{span_of};
 ghost use Rattle.footprint.specs.Flank.{flank_distance, flank_of};
 ghost use Rattle.footprint.specs.Question.{flank};
 
-use super::question::admit_interval;
+use super::question::judge_interval;
 use super::source::source_ranges;
 use super::span::{Span, span_of};
-use super::{Flank, Flanked, Ranges};
-use transcript::question::refusal_number;
-use transcript::{Admission, TranscriptModel};
+use super::{Flank, Ranges};
+use common::refusal::Refusal;
+use transcript::Transcript;
 
 // The distance of an insertion or of some bases, with this number of bases between.
 pub(crate) fn flank_distance(q: Span, bases: u64) -> u64
@@ -48,36 +48,13 @@ pub fn classify_flank(
     chromosome: u16,
     start: u64,
     end: u64,
-    model: TranscriptModel,
-    exon_starts: &[u64],
-    exon_ends: &[u64],
-    seg_phases: &[u8],
-    seg_exons: &[u16],
-    seg_starts: &[u64],
-    seg_ends: &[u64],
-    selenocysteine: &[u64],
-) -> Flanked
-    ensures { let t = was_given model exon_starts exon_ends seg_phases seg_exons seg_starts seg_ends selenocysteine in
-        result ≡ flank source_ranges t chromosome start end }
+    transcript: &Transcript,
+) -> Result<Flank, Refusal>
+    ensures { result ≡ flank source_ranges (transcript_of transcript.now) chromosome start end }
 {
-    let admitted = admit_interval(
-        chromosome,
-        start,
-        end,
-        model,
-        exon_starts,
-        exon_ends,
-        seg_phases,
-        seg_exons,
-        seg_starts,
-        seg_ends,
-        selenocysteine,
-    );
-    let Admission::Admitted = admitted else {
-        return Flanked::Refused(refusal_number(admitted));
-    };
-    let strand = model.strand;
-    let x = span_of(strand, model.tx_start, model.tx_end);
-    let q = span_of(strand, start, end);
-    Flanked::Beside(flank_of(source_ranges(), x, q))
+    judge_interval(chromosome, start, end, transcript)?;
+    let model = transcript.model;
+    let x = span_of(model.strand, model.tx_start, model.tx_end);
+    let q = span_of(model.strand, start, end);
+    Ok(flank_of(source_ranges(), x, q))
 }

@@ -19,7 +19,7 @@ pub use source::source_ranges;
 pub use windows::exonic_splice_spill;
 
 // The lengths that a place is judged by: of the flank beside a transcript, and of the splice region into the intron on each side.
-#[derive(Clone, Copy)]
+#[derive(Clone, Copy, PartialEq, Eq)]
 pub struct Ranges {
     pub flank: u64,
     pub donor: u64,
@@ -27,7 +27,7 @@ pub struct Ranges {
 }
 
 // Where a footprint lies beside a transcript, with its distance.
-#[derive(Clone, Copy)]
+#[derive(Clone, Copy, PartialEq, Eq)]
 pub enum Flank {
     Overlaps,
     Upstream(u64),
@@ -36,28 +36,8 @@ pub enum Flank {
 }
 
 // Which splice windows of short introns a footprint beside these introns hits.
-#[derive(Clone, Copy)]
+#[derive(Clone, Copy, PartialEq, Eq)]
 pub struct SpliceSpill {
     pub donor: bool,
     pub acceptor: bool,
-}
-
-// The answers: what was asked for, or the number of the refusal.
-#[derive(Clone, Copy)]
-pub enum Flanked {
-    Beside(Flank),
-    Refused(u8),
-}
-
-#[derive(Clone, Copy)]
-pub enum Endpoint {
-    Intron(u16),
-    Nowhere,
-    Refused(u8),
-}
-
-#[derive(Clone, Copy)]
-pub enum Spilled {
-    Spill(SpliceSpill),
-    Refused(u8),
 }

@@ -9,7 +9,7 @@ use transcript::Strand;
 use transcript::oriented::{end_of, start_of};
 
 // The bases from `start` to just before `end`.
-#[derive(Clone, Copy)]
+#[derive(Clone, Copy, PartialEq, Eq)]
 pub struct Span {
     pub start: u64,
     pub end: u64,
@@ -20,16 +20,14 @@ pub(crate) fn span_of(strand: Strand, s: u64, e: u64) -> Span
     requires { (s ≤ top) × (e ≤ top) }
     ensures { span_of result ≡ orient strand s e }
 {
-    let start = start_of(strand, s, e);
-    let end = end_of(strand, s, e);
-    Span { start, end }
+    Span {
+        start: start_of(strand, s, e),
+        end: end_of(strand, s, e),
+    }
 }
 
 pub(crate) fn overlaps(q: Span, x: Span) -> bool
     ensures { result ≡ overlap (span_of q) (span_of x) }
 {
-    if x.end <= q.start {
-        return false;
-    }
-    x.start < q.end
+    q.start < x.end && x.start < q.end
 }

@@ -1,21 +1,21 @@
 // The splice windows of short introns that reach an interval beside the intron, in oriented coordinates.
-ghost use Rattle.std.specs.Prelude.{◌≡◌, false, ◌&&◌, ◌||◌, ◌≤◌, length};
+ghost use Rattle.std.specs.Prelude.{◌≡◌, false, ◌&&◌, ◌≤◌, length};
 ghost use Rattle.common.specs.Lists.{any};
 ghost use Rattle.transcript.specs.Limits.{top};
-ghost use Rattle.transcript.specs.Transcript.{exons_of, was_given};
-ghost use Rattle.transcript.specs.Orient.{interval, Oriented};
+ghost use Rattle.transcript.specs.Transcript.{transcript_of};
+ghost use Rattle.transcript.specs.Orient.{Oriented};
 ghost use Rattle.transcript.specs.Admission.{bad_exon};
-ghost use Rattle.transcript.specs.code.Lent.{lent_exons};
+ghost use Rattle.transcript.specs.code.Lent.{exons_in, oriented_in};
 ghost use Rattle.footprint.specs.code.Lent.{span_of};
 ghost use Rattle.footprint.specs.ShortIntron.{is_frameshift_gap, hits, donor_window, acceptor_window, exonic_splice_spill};
 ghost use Rattle.footprint.specs.Question.{spill};
 
+use super::SpliceSpill;
 use super::gaps::{gap_after, is_frameshift_gap};
-use super::question::admit_interval;
+use super::question::judge_interval;
 use super::span::{Span, overlaps, span_of};
-use super::{Spilled, SpliceSpill};
-use transcript::question::refusal_number;
-use transcript::{Admission, Strand, TranscriptModel};
+use common::refusal::Refusal;
+use transcript::{Intervals, Strand, Transcript};
 
 // The first two bases of the gap; at gap 1 the second lies in the next exon.
 pub(crate) fn donor_window(gap: Span) -> Span
@@ -32,9 +32,8 @@ pub(crate) fn donor_window(gap: Span) -> Span
 pub(crate) fn acceptor_window(gap: Span) -> Span
     ensures { span_of result ≡ acceptor_window (span_of gap) }
 {
-    let start = if gap.end < 2 { 0 } else { gap.end - 2 };
     Span {
-        start,
+        start: gap.end.saturating_sub(2),
         end: gap.end,
     }
 }
@@ -43,92 +42,45 @@ pub(crate) fn acceptor_window(gap: Span) -> Span
 pub(crate) fn hits_window(q: Span, gap: Span, window: Span) -> bool
     ensures { result ≡ hits (span_of q) (span_of gap) (span_of window) }
 {
-    if overlaps(q, gap) {
-        return false;
-    }
-    overlaps(q, window)
+    !overlaps(q, gap) && overlaps(q, window)
 }
 
 // Whether the gap is short and q hits this window of it.
 pub(crate) fn spills_into(window: Span, q: Span, gap: Span) -> bool
     ensures { result ≡ (is_frameshift_gap (span_of gap) && hits (span_of q) (span_of gap) (span_of window)) }
 {
-    if is_frameshift_gap(gap) {
-        return hits_window(q, gap, window);
-    }
-    false
+    is_frameshift_gap(gap) && hits_window(q, gap, window)
 }
 
-pub(crate) fn either(a: bool, b: bool) -> bool
-    ensures { result ≡ (a || b) }
-{
-    if a { true } else { b }
-}
-
-// The windows that [from, to) hits.
-pub(crate) fn spill_of(
-    starts: &[u64],
-    ends: &[u64],
-    strand: Strand,
-    from: u64,
-    to: u64,
-) -> SpliceSpill
-    requires starts_len { length starts.now ≡ length ends.now }
-    requires ends_value { any bad_exon (exons_of starts.now ends.now) ≡ false }
+// The windows that q hits: two facts, so two flags.
+pub(crate) fn spill_of(exons: Intervals, strand: Strand, q: Span) -> SpliceSpill
+    requires even { length exons.starts.now ≡ length exons.ends.now }
+    requires good_edges { any bad_exon (exons_in exons) ≡ false }
     ensures { (t : Oriented)
-        → t.exons ≡ lent_exons strand starts.now ends.now
-        → result ≡ exonic_splice_spill t (interval from to) }
+        → t.exons ≡ oriented_in strand exons.entry
+        → result ≡ exonic_splice_spill t (span_of q) }
 {
-    let q = Span {
-        start: from,
-        end: to,
-    };
     let mut donor = false;
     let mut acceptor = false;
-    let mut i = 0;
-    while i + 1 < starts.len() {
-        let gap = gap_after(starts, ends, strand, i);
-        donor = either(donor, spills_into(donor_window(gap), q, gap));
-        acceptor = either(acceptor, spills_into(acceptor_window(gap), q, gap));
-        i += 1;
+    for i in 0..exons.starts.len().saturating_sub(1) {
+        let gap = gap_after(exons, strand, i);
+        donor |= spills_into(donor_window(gap), q, gap);
+        acceptor |= spills_into(acceptor_window(gap), q, gap);
     }
     SpliceSpill { donor, acceptor }
 }
 
-// The splice windows of short introns that [start, end), beside these introns, hits.
+// The splice windows of short introns that [start, end), beside these introns, hits. Like `frameshift_intron_endpoint` in shape alone.
 pub fn exonic_splice_spill(
     chromosome: u16,
     start: u64,
     end: u64,
-    model: TranscriptModel,
-    exon_starts: &[u64],
-    exon_ends: &[u64],
-    seg_phases: &[u8],
-    seg_exons: &[u16],
-    seg_starts: &[u64],
-    seg_ends: &[u64],
-    selenocysteine: &[u64],
-) -> Spilled
-    ensures { let t = was_given model exon_starts exon_ends seg_phases seg_exons seg_starts seg_ends selenocysteine in
-        result ≡ spill t chromosome start end }
+    transcript: &Transcript,
+) -> Result<SpliceSpill, Refusal>
+    ensures { result ≡ spill (transcript_of transcript.now) chromosome start end }
 {
-    let admitted = admit_interval(
-        chromosome,
-        start,
-        end,
-        model,
-        exon_starts,
-        exon_ends,
-        seg_phases,
-        seg_exons,
-        seg_starts,
-        seg_ends,
-        selenocysteine,
-    );
-    let Admission::Admitted = admitted else {
-        return Spilled::Refused(refusal_number(admitted));
-    };
-    let strand = model.strand;
+    judge_interval(chromosome, start, end, transcript)?;
+    let strand = transcript.model.strand;
     let q = span_of(strand, start, end);
-    Spilled::Spill(spill_of(exon_starts, exon_ends, strand, q.start, q.end))
+    Ok(spill_of(transcript.exons, strand, q))
 }

@@ -14,8 +14,8 @@ use Rattle.common.proofs.Lists.{any_none}
 use Rattle.transcript.specs.declared.Strand.{Strand}
 use Rattle.transcript.specs.declared.Exon.{Exon}
 use Rattle.transcript.specs.declared.CdsSegment.{CdsSegment}
+use Rattle.std.specs.Prelude.{Option, Some, None}
 use Rattle.transcript.specs.declared.CdsBounds.{CdsBounds}
-use Rattle.transcript.specs.declared.CdsBounds.TheVariants.{Neither, Both}
 use Rattle.transcript.specs.Limits.{top, max_exons, max_selenocysteine, coordinate_limit, last_chromosome}
 use Rattle.transcript.specs.Transcript.{Transcript, cds_start, cds_end, has_bounds, is_empty}
 use Rattle.transcript.specs.Orient.{Interval, orient, orient_exon, orient_segment, oriented}
@@ -146,11 +146,11 @@ coordinates t h =
     )
 
 -- bounds are there where segments are, and then the start is below the end
-pub cds_bounds : (b : CdsBounds) (segments : Bool) → bad_cds_bounds b segments ≡ false → (has_bounds b ≡ segments) × (segments ≡ true → cds_start b < cds_end b)
-cds_bounds Neither segments h = (sym h, λ e. absurd (true_false (sym e ∙ h)))
-cds_bounds (Both s e) segments h =
-    let a = or_false (not segments) (not (ltb s e)) h in
-    (sym (not-false segments a.0), λ k. ltb-true s e (not-false (ltb s e) a.1))
+pub cds_bounds : (b : Option CdsBounds) (segments : Bool) → bad_cds_bounds b segments ≡ false → (has_bounds b ≡ segments) × (segments ≡ true → cds_start b < cds_end b)
+cds_bounds None segments h = (sym h, λ e. absurd (true_false (sym e ∙ h)))
+cds_bounds (Some b) segments h =
+    let a = or_false (not segments) (not (ltb b.cds_genomic_start b.cds_genomic_end)) h in
+    (sym (not-false segments a.0), λ k. ltb-true b.cds_genomic_start b.cds_genomic_end (not-false (ltb b.cds_genomic_start b.cds_genomic_end) a.1))
 
 -- without a CDS there are no segments and no cuts
 pub empty_list : {A : Type 0} (xs : List A) → not (is_empty xs) ≡ false → xs ≡ []

@@ -6,7 +6,6 @@ use mathlib.Core.Bool.{true, false}
 use mathlib.Core.List.{List, [], ◌∷◌, ◌++◌}
 use native.Mathlib.Omega.{arith}
 use lib.ListN.{length}
-use Rattle.common.specs.Lists.{any}
 use Rattle.common.proofs.TestParts.{on_test, true_false}
 use Rattle.transcript.specs.Orient.{Interval}
 use Rattle.transcript.specs.Bases.{inside, inside_any, first_start, end_after}
@@ -28,7 +27,7 @@ ends_after e (x ∷ xs) h = let r = ends_after x.end xs h.2 in let a = h.0 in le
 
 -- a base that one of the intervals holds lies after the edge and before the last end
 pub inside_from : (e : ℕ) (xs : List Interval) (p : ℕ) → Ascends e xs → inside_any p xs ≡ true → (e ≤ p) × (p < end_after e xs)
-unfolding any end_after
+unfolding end_after
 inside_from e [] p a h = absurd (true_false (sym h))
 inside_from e (x ∷ xs) p a h =
     let s = a.0 in let m = a.1 in let w = ends_after x.end xs a.2 in

@@ -1,21 +1,23 @@
 -- What a question is refused by, a case at a time, and the answer that goes with its number.
 -- Assumes nothing.
-use Prim.Native.Nat.{ℕ, zero, suc, ◌≤◌, ◌<◌}
-use mathlib.Core.Path.{◌≡◌, refl, sym, ◌∙◌, ap}
+use Prim.Native.Nat.{ℕ, ◌≤◌, ◌<◌}
+use mathlib.Core.Path.{◌≡◌, sym, ◌∙◌, ap}
 use mathlib.Core.Bool.{Bool, true, false, cond, not, ◌||◌}
 use native.Mathlib.Omega.{arith}
 use lib.Dec.{eqb, ltb}
 use borrow.Author.Tests.{eq-eqb, ne_eqb, ltb-false}
-use Rattle.common.proofs.TestParts.{true_false, or_false}
+use Rattle.common.proofs.TestParts.{or_false}
 use Rattle.transcript.specs.declared.Strand.{Strand}
 use Rattle.transcript.specs.declared.Strand.TheVariants.{Plus, Minus}
-use Rattle.transcript.specs.declared.Admission.{Admission}
+use Rattle.std.specs.Prelude.{Result, Ok, Err}
+use Rattle.common.specs.declared.refusal.Refusal.{Refusal}
+use Rattle.common.specs.Refusal.{outcome}
+use Rattle.common.proofs.Outcome.{was_answered, passed_first}
 use Rattle.transcript.specs.Limits.{top, query_limit}
 use Rattle.transcript.specs.Transcript.{Transcript}
 use Rattle.transcript.specs.Orient.{orient_base}
 use Rattle.transcript.specs.Admission.{admission, admission_of}
-use Rattle.transcript.specs.Numbers.{admission_number}
-use Rattle.transcript.specs.Question.{bad_interval, is_elsewhere, question_refusal}
+use Rattle.transcript.specs.Question.{bad_interval, is_elsewhere, query_refusal, question_refusal}
 
 -- a base of a question stands below the top
 pub base_low : (σ : Strand) (p : ℕ) → p ≤ query_limit → orient_base σ p ≤ top
@@ -39,40 +41,17 @@ elsewhere t c h = ap not (ne_eqb c t.model.chromosome h)
 pub not_elsewhere : (t : Transcript) (c : ℕ) → c ≡ t.model.chromosome → is_elsewhere t c ≡ false
 not_elsewhere t c h = ap not (eq-eqb c t.model.chromosome h)
 
--- an admission that is a refusal has a number
-not_zero : (k : ℕ) → eqb k 0 ≡ false → 0 < k
-not_zero zero h = absurd (true_false h)
-not_zero (suc k) h = omega arith
+-- a transcript that is admitted, or the refusal that is passed on
+module _ (t : Transcript) (a : Result (Unit {0}) Refusal) (is : a ≡ admission_of t) where
+  pub admitted_is : (u : Unit {0}) → a ≡ Ok u → admission t ≡ 0
+  admitted_is u e = was_answered tt (admission t) u (sym is ∙ e)
 
-abbrev is_refused : Admission → Bool
-is_refused Admission.Admitted = false
-is_refused (Admission.Refused n) = true
-
-refused_test : (b : Bool) (n k : ℕ) → Admission.Refused n ≡ cond b Admission.Admitted (Admission.Refused k) → b ≡ false
-refused_test true n k h = absurd (true_false (ap is_refused h))
-refused_test false n k h = refl
-
-module _ (t : Transcript) (a : Admission) (is : a ≡ admission_of t) where
-  pub refused_some : (n : ℕ) → a ≡ Admission.Refused n → 0 < admission t
-  refused_some n e = not_zero (admission t) (refused_test (eqb (admission t) 0) n (admission t) (sym e ∙ is))
-
-  -- the number that goes with it
-  numbered : (n : ℕ) → admission_number (cond (eqb n 0) Admission.Admitted (Admission.Refused n)) ≡ n
-  numbered zero = refl
-  numbered (suc n) = rw (ne_eqb (suc n) 0 (λ z. (omega arith)))
-
-  pub number_is : admission_number a ≡ admission t
-  number_is = ap admission_number is ∙ numbered (admission t)
-
-  pub admitted_is : a ≡ Admission.Admitted → admission t ≡ 0
-  admitted_is e = sym number_is ∙ ap admission_number e
+  pub by_admission : {A : Type 0} (x : A) (r : Refusal) → a ≡ Err r → (bad away : Bool) → Err r ≡ outcome (question_refusal t bad away) x
+  unfolding question_refusal
+  by_admission x r e bad away = passed_first tt x (admission t) r (sym is ∙ e) (query_refusal bad away 0)
 
 -- the refusal of a question, case by case
 module _ (t : Transcript) (bad away : Bool) where
-  pub by_admission : (n : ℕ) → 0 < n → n ≡ admission t → question_refusal t bad away ≡ n
-  unfolding question_refusal
-  by_admission n l h = rw (sym h, ne_eqb n 0 (λ z. (omega arith)))
-
   pub by_15 : admission t ≡ 0 → bad ≡ true → question_refusal t bad away ≡ 15
   unfolding question_refusal
   by_15 h b = rw (h, b)
@@ -89,6 +68,3 @@ module _ (t : Transcript) (bad away : Bool) where
 module _ {A : Type 0} (refused : ℕ → A) (x : A) (w : ℕ) where
   pub is_refused_lem : (n : ℕ) → 0 < n → w ≡ n → refused n ≡ cond (eqb w 0) x (refused w)
   is_refused_lem n l e = rw (e, ne_eqb n 0 (λ z. (omega arith)))
-
-  pub is_answered_lem : w ≡ 0 → x ≡ cond (eqb w 0) x (refused w)
-  is_answered_lem e = rw e

@@ -1,18 +1,19 @@
 -- Refusals 10, 11 and 12, a case at a time.
 -- Assumes nothing.
-use Prim.Native.Nat.{◌-◌}
-use mathlib.Core.Path.{◌≡◌, refl, sym}
+use Prim.Native.Nat.{ℕ, ◌-◌}
+use mathlib.Core.Path.{◌≡◌, sym, ◌∙◌, ap}
 use mathlib.Core.Bool.{Bool, true, false}
 use mathlib.Core.List.{List}
-use Rattle.common.proofs.TestParts.{true_false}
 use Rattle.transcript.specs.declared.Strand.{Strand}
-use Rattle.transcript.specs.declared.CdsBounds.{CdsBounds}
-use Rattle.transcript.specs.declared.CdsBounds.TheVariants.{Neither, Both}
-use Rattle.transcript.specs.Transcript.{cds_start, cds_end, has_bounds}
-use Rattle.transcript.specs.Orient.{Interval, orient, orient_bounds}
-use Rattle.transcript.specs.Bases.{inside_any}
+use Rattle.transcript.specs.Orient.{Interval, interval, orient_base}
+use Rattle.transcript.specs.Bases.{inside, inside_any}
 use Rattle.transcript.specs.Cuts.{Cut, cuts, same_cuts}
-use Rattle.transcript.specs.code.Lent.{cds_fault}
+use Rattle.transcript.specs.code.Lent.{cds_fault, any_lent, exons_in, oriented_in, holds}
+use Rattle.transcript.specs.declared.Intervals.{Intervals}
+use Rattle.transcript.specs.Admission.{bad_exon}
+use Rattle.common.specs.Lists.{any}
+use Rattle.transcript.proofs.Listed.{any_exons}
+use Rattle.transcript.proofs.LentSegments.{holds_oriented}
 
 module _ (coding : Bool) (cds : Interval) (xs : List Interval) (gs : List Cut) (c : coding ≡ true) where
   pub lacks_first_lem : inside_any cds.start xs ≡ false → 10 ≡ cds_fault coding cds xs gs
@@ -29,9 +30,9 @@ module _ (coding : Bool) (cds : Interval) (xs : List Interval) (gs : List Cut) (
       pub lacks_none : same_cuts gs (cuts cds 0 xs) ≡ true → 0 ≡ cds_fault coding cds xs gs
       lacks_none s = rw (c, a, b, s)
 
--- without bounds there is no CDS, and its edges take no part
-pub fault_bounds : (coding : Bool) (σ : Strand) (b : CdsBounds) (xs : List Interval) (gs : List Cut) → has_bounds b ≡ coding
-    → cds_fault coding (orient σ (cds_start b) (cds_end b)) xs gs ≡ cds_fault coding (orient_bounds σ b) xs gs
-fault_bounds true σ Neither xs gs h = absurd (true_false (sym h))
-fault_bounds false σ Neither xs gs h = refl
-fault_bounds coding σ (Both s e) xs gs h = refl
+-- a coordinate that an interval holds, in oriented coordinates
+module _ (σ : Strand) (x : Intervals) (p : ℕ) (b : Bool) (h : any_lent (λ s e. inside p (interval s e)) x ≡ b) (edges : any bad_exon (exons_in x) ≡ false) where
+  pub inside_at : (q : ℕ) → orient_base σ p ≡ q → inside_any q (oriented_in σ x) ≡ b
+  inside_at q e =
+      ap (λ (n : ℕ). inside_any n (oriented_in σ x)) (sym e)
+      ∙ sym (holds_oriented σ (exons_in x) p edges) ∙ any_exons (holds p) x.starts.now x.ends.now ∙ h

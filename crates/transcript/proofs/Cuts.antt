@@ -6,8 +6,7 @@ use mathlib.Core.Bool.{Bool, true, false, ◌&&◌, ◌||◌, and-false}
 use mathlib.Core.List.{List, [], ◌∷◌, map}
 use native.Mathlib.Omega.{arith}
 use lib.Dec.{ltb, eqb}
-use borrow.Author.Tests.{ltb-true, ltb-false, eqb-true, lt-ltb, le-ltb, eq-eqb}
-use Rattle.common.specs.Lists.{any}
+use borrow.Author.Tests.{ltb-true, ltb-false, eqb-true, lt-ltb, le-ltb}
 use Rattle.common.proofs.TestParts.{and_true, same_test, on_test, true_false}
 use Rattle.transcript.specs.Orient.{Interval}
 use Rattle.transcript.specs.Bases.{inside, inside_any, bases_in}
@@ -36,11 +35,6 @@ same_cuts_lem (c ∷ cs) (d ∷ ds) h =
     let y = and_true (eqb c.index d.index) (eqb c.bases.start d.bases.start && eqb c.bases.end d.bases.end) x.0 in
     let z = and_true (eqb c.bases.start d.bases.start) (eqb c.bases.end d.bases.end) y.1 in
     ap₂ ◌∷◌ (cut_same c d (eqb-true c.index d.index y.0) (eqb-true c.bases.start d.bases.start z.0) (eqb-true c.bases.end d.bases.end z.1)) (same_cuts_lem cs ds x.1)
-
-pub cuts_refl : (cs : List Cut) → same_cuts cs cs ≡ true
-unfolding same_cuts
-cuts_refl [] = refl
-cuts_refl (c ∷ cs) = rw (eq-eqb c.index c.index refl, eq-eqb c.bases.start c.bases.start refl, eq-eqb c.bases.end c.bases.end refl) (cuts_refl cs)
 
 -- an empty CDS cuts nothing
 pub cuts_none : (cds : Interval) (k : ℕ) (xs : List Interval) → cds.end ≤ cds.start → cuts cds k xs ≡ []
@@ -87,7 +81,7 @@ share_skip false b c d h l = h
 
 -- the segments hold a base where the CDS and an exon do
 pub cuts_inside : (cds : Interval) (k : ℕ) (xs : List Interval) (p : ℕ) → inside_any p (segments_from cds k xs) ≡ (inside p cds && inside_any p xs)
-unfolding any cuts
+unfolding cuts
 cuts_inside cds k [] p = sym (and-false (inside p cds))
 cuts_inside cds k (x ∷ xs) p =
     let r = cuts_inside cds (suc k) xs p in

@@ -1,23 +1,20 @@
 -- The admission of a transcript whose lists are lent apart, as a chain of tests of the lists.
 -- Assumes nothing.
-use Prim.Native.Nat.{ℕ, ◌-◌, ◌≤◌, ◌<◌}
-use mathlib.Core.Path.{◌≡◌, refl, sym, ◌∙◌, ap}
+use Prim.Native.Nat.{ℕ, ◌-◌}
+use mathlib.Core.Path.{◌≡◌, refl, ◌∙◌, ap}
 use mathlib.Core.Bool.{Bool, true, false, not, ◌&&◌}
 use mathlib.Core.List.{List, [], map}
-use native.Mathlib.Omega.{arith}
 use lib.ListN.{length}
 use lib.Dec.{ltb, eqb}
-use borrow.Author.Tests.{ne_eqb, eqb-true, eqb-false, ltb-false}
+use borrow.Author.Tests.{eqb-true}
 use Rattle.common.specs.Refuse.{refuse, or_else}
 use Rattle.common.specs.Lists.{any}
-use Rattle.common.proofs.TestParts.{on_test, or_false, and_true, true_false}
+use Rattle.common.proofs.TestParts.{on_test, or_false, and_true}
 use Rattle.transcript.specs.declared.TranscriptModel.{TranscriptModel}
-use Rattle.transcript.specs.declared.Admission.{Admission}
-use Rattle.transcript.specs.Limits.{max_exons, coordinate_limit}
-use Rattle.transcript.specs.Transcript.{Transcript, exons_of, segments_of, even_lists, lent, cds_start, cds_end}
+use Rattle.transcript.specs.Transcript.{Transcript, exons_of, segments_of, even_lists, lent}
 use Rattle.transcript.specs.Orient.{Interval, orient, orient_bounds, orient_exon, oriented}
 use Rattle.transcript.specs.Bases.{inside_any}
-use Rattle.transcript.specs.Admission.{bad_numbers, bad_counts, bad_exon, over_limit, bad_scalars, bad_coordinates, ascending, not_outer, bad_cds_bounds, index_fault, in_none, admission, admission_of}
+use Rattle.transcript.specs.Admission.{bad_numbers, bad_counts, bad_exon, bad_coordinates, ascending, not_outer, bad_cds_bounds, index_fault, in_none, admission}
 use Rattle.transcript.specs.Cuts.{cuts, same_cuts}
 use Rattle.transcript.specs.code.Lent.{holds_none, phase_over, pad_of_phases, listed_cuts, bad_listed, cds_fault}
 use Rattle.transcript.proofs.Listed.{exons_length}
@@ -124,63 +121,3 @@ pub lent_admission : (m : TranscriptModel) (ss es ps is gs ge bs : List ℕ) →
 lent_admission m ss es ps is gs ge bs h =
     let e = even_parts ss es ps is gs ge h in
     ap admission (lent_even m ss es ps is gs ge bs h) ∙ listed_admission m ss es ps is gs ge bs e.0 e.1
-
--- a test in its turn: it refuses, or the later ones decide
-pub go : {x : ℕ} (b : Bool) (n later : ℕ) → x ≡ refuse b n later → b ≡ false → x ≡ later
-go true n later e h = absurd (true_false h)
-go false n later e h = e
-
-pub stop : {x : ℕ} (b : Bool) (n later : ℕ) → x ≡ refuse b n later → b ≡ true → x ≡ n
-stop true n later e h = e
-stop false n later e h = absurd (true_false (sym h))
-
-pub go_else : {x : ℕ} (n later : ℕ) → x ≡ or_else n later → n ≡ 0 → x ≡ later
-go_else n later e h = e ∙ rw h
-
-pub stop_else : {x : ℕ} (n later : ℕ) → x ≡ or_else n later → (n ≡ 0 → ⊥) → x ≡ n
-stop_else n later e h = e ∙ rw (ne_eqb n 0 h)
-
--- the answer that goes with a number
-pub refused : (t : Transcript) (n : ℕ) → 0 < n → admission t ≡ n → Admission.Refused n ≡ admission_of t
-refused t n l h = rw (h, ne_eqb n 0 (λ e. (omega arith)))
-
-pub admitted : (t : Transcript) → admission t ≡ 0 → Admission.Admitted ≡ admission_of t
-admitted t h = rw h
-
--- what the tests of 1 and 2 leave for the later ones
-pub record Counted (n : ℕ) : Type 0 where
-  pub some : 0 < n
-  pub few : n ≤ max_exons
-
-pub counted : (count exons segments bases : ℕ) → bad_numbers count exons segments bases ≡ false → Counted exons
-counted count exons segments bases h =
-    let a = or_false (eqb exons 0) _ h in
-    let b = or_false (ltb max_exons exons) _ a.1 in
-    let z = eqb-false exons 0 a.0 in
-    record { some = omega arith; few = ltb-false max_exons exons b.0 }
-
-pub record Bounded (m : TranscriptModel) (ss es gs ge : List ℕ) : Type 0 where
-  pub exon_edges : any bad_exon (exons_of ss es) ≡ false
-  pub segment_edges : any bad_exon (exons_of gs ge) ≡ false
-  pub tx_start : m.tx_start ≤ coordinate_limit
-  pub tx_end : m.tx_end ≤ coordinate_limit
-  pub cds_start_lem : cds_start m.cds ≤ coordinate_limit
-  pub cds_end_lem : cds_end m.cds ≤ coordinate_limit
-
-pub bounded : (m : TranscriptModel) (ss es gs ge bs : List ℕ) → bad_listed m ss es gs ge bs ≡ false → Bounded m ss es gs ge
-bounded m ss es gs ge bs h =
-    let i = or_false (any bad_exon (exons_of ss es)) _ h in
-    let j = or_false (any bad_exon (exons_of gs ge)) _ i.1 in
-    let k = or_false (any over_limit bs) (bad_scalars m) j.1 in
-    let a = or_false (over_limit m.tx_start) _ k.1 in
-    let b = or_false (over_limit m.tx_end) _ a.1 in
-    let c = or_false (over_limit (cds_start m.cds)) _ b.1 in
-    let d = or_false (over_limit (cds_end m.cds)) _ c.1 in
-    record {
-      exon_edges = i.0;
-      segment_edges = j.0;
-      tx_start = ltb-false coordinate_limit m.tx_start a.0;
-      tx_end = ltb-false coordinate_limit m.tx_end b.0;
-      cds_start_lem = ltb-false coordinate_limit (cds_start m.cds) c.0;
-      cds_end_lem = ltb-false coordinate_limit (cds_end m.cds) d.0;
-    }

@@ -39,7 +39,7 @@ pub record Lent (ps is gs ge : List ℕ) : Type 0 where
   pub turned : (σ : Strand) → map (orient_segment σ) (segments_of ps is gs ge) ≡ map (orient_exon σ) (exons_of gs ge)
 
 pub lent_segments : (ps is gs ge : List ℕ) → Even ps is gs ge → Lent ps is gs ge
-unfolding segments_of exons_of any listed_cuts
+unfolding segments_of exons_of listed_cuts
 lent_segments [] [] [] [] q = record { count = refl; edges = refl; coding = refl; over = refl; pad = refl; named = refl; cut = λ σ. refl; turned = λ σ. refl }
 lent_segments [] is (g ∷ gs) ge q = absurd (let a = q.phases in omega arith)
 lent_segments [] (i ∷ is) [] ge q = absurd (let a = q.indexes in omega arith)
@@ -63,7 +63,6 @@ lent_segments (p ∷ ps) (i ∷ is) (g ∷ gs) (e ∷ ge) q =
 
 -- exons with good edges hold a base where the oriented exons hold the oriented base
 pub holds_oriented : (σ : Strand) (xs : List Exon) (p : ℕ) → any bad_exon xs ≡ false → any (holds p) xs ≡ inside_any (orient_base σ p) (map (orient_exon σ) xs)
-unfolding any
 holds_oriented σ [] p h = refl
 holds_oriented σ (x ∷ xs) p h =
     let n = any_none bad_exon x xs h in

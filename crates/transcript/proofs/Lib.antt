@@ -16,3 +16,5 @@ pub mod CdsFault
 pub mod LentFacts
 pub mod Asking
 pub mod NumbersGiven
+pub mod Judged
+pub mod OnParts

@@ -1,16 +1,18 @@
 -- Exons and segments that are lent as lists of numbers, at an index.
 -- Assumes nothing.
-use Prim.Native.Nat.{ℕ, zero, suc, ◌+◌, ◌≤◌, ◌<◌}
+use Prim.Native.Nat.{ℕ, zero, suc, ◌-◌, ◌≤◌, ◌<◌}
 use mathlib.Core.Path.{◌≡◌, refl, sym, ◌∙◌, ap}
-use mathlib.Core.Bool.{Bool, true, false, not}
+use mathlib.Core.Bool.{Bool, false, not}
 use mathlib.Core.List.{List, [], ◌∷◌, map}
 use native.Mathlib.Omega.{arith}
 use lib.ListN.{length, get_or, drop}
+use Rattle.std.specs.Prelude.{◌||◌}
+use Rattle.std.specs.List.{list_any, zip}
 use Rattle.common.specs.Lists.{any}
 use lib.Dec.{ltb}
 use borrow.Author.Tests.{ltb-true, ltb-false, not-false}
 use Rattle.common.proofs.TestParts.{or_false}
-use Rattle.common.proofs.Lists.{any_stop, any_go, any_end, any_none}
+use Rattle.common.proofs.Lists.{any_end, any_none}
 use Rattle.transcript.specs.declared.Strand.{Strand}
 use Rattle.transcript.specs.Limits.{coordinate_limit}
 use Rattle.transcript.specs.Orient.{Interval, interval, orient, orient_exon}
@@ -35,14 +37,15 @@ exons_at (s ∷ ss) [] k h l = absurd (omega arith)
 exons_at (s ∷ ss) (e ∷ es) zero h l = refl
 exons_at (s ∷ ss) (e ∷ es) (suc k) h l = exons_at ss es k (omega arith) (omega arith)
 
+-- a test of exons, as one of the two lists side by side
+pub any_exons : (f : Exon → Bool) (ss es : List ℕ) → any f (exons_of ss es) ≡ list_any (λ (x : ℕ × ℕ). f (exon x.0 x.1)) (zip ss es)
+unfolding exons_of
+any_exons f [] es = refl
+any_exons f (s ∷ ss) [] = refl
+any_exons f (s ∷ ss) (e ∷ es) = ap (λ (b : Bool). f (exon s e) || b) (any_exons f ss es)
+
 -- a loop over the two lists, with a test of an exon
 module _ (f : Exon → Bool) (ss es : List ℕ) (i : ℕ) (q : length ss ≡ length es) where
-  pub exons_stop : i < length ss → f (exon (get_or ss i 0) (get_or es i 0)) ≡ true → any f (drop i (exons_of ss es)) ≡ true
-  exons_stop l h = let n = exons_length ss es q in any_stop f (exons_of ss es) i (exon 0 0) (omega arith) (rw (exons_at ss es i q l) h)
-
-  pub exons_go : i < length ss → f (exon (get_or ss i 0) (get_or es i 0)) ≡ false → any f (drop i (exons_of ss es)) ≡ any f (drop (i + 1) (exons_of ss es))
-  exons_go l h = let n = exons_length ss es q in any_go f (exons_of ss es) i (exon 0 0) (omega arith) (rw (exons_at ss es i q l) h)
-
   pub exons_end : i ≡ length ss → any f (drop i (exons_of ss es)) ≡ false
   exons_end e = any_end f (exons_of ss es) i (e ∙ sym (exons_length ss es q))
 
@@ -89,3 +92,14 @@ last_at e (x ∷ []) zero h = refl
 last_at e (x ∷ []) (suc k) h = absurd (omega arith)
 last_at e (x ∷ y ∷ ys) zero h = absurd (omega arith)
 last_at e (x ∷ y ∷ ys) (suc k) h = last_at x.end (y ∷ ys) k (omega arith)
+
+-- the edges that the outer exons give
+module _ (σ : Strand) (ss es : List ℕ) (q : length ss ≡ length es) (some : 0 < length ss) where
+  pub outer_start : first_start (map (orient_exon σ) (exons_of ss es)) ≡ (orient σ (get_or ss 0 0) (get_or es 0 0)).start
+  outer_start = let n = oriented_length σ ss es q in
+      first_at (map (orient_exon σ) (exons_of ss es)) (omega arith) ∙ ap (λ (x : Interval). x.start) (oriented_at σ ss es 0 q some)
+
+  pub outer_end : end_after 0 (map (orient_exon σ) (exons_of ss es)) ≡ (orient σ (get_or ss (length ss - 1) 0) (get_or es (length ss - 1) 0)).end
+  outer_end = let n = oriented_length σ ss es q in
+      last_at 0 (map (orient_exon σ) (exons_of ss es)) (length ss - 1) (omega arith)
+      ∙ ap (λ (x : Interval). x.end) (oriented_at σ ss es (length ss - 1) q (omega arith))

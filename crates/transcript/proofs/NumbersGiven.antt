@@ -8,15 +8,17 @@ use lib.Dec.{eqb, leb}
 use lib.ListN.{length}
 use borrow.Author.Tests.{eqb-true}
 use Rattle.common.specs.Refuse.{refuse, or_else}
-use Rattle.common.specs.Lists.{any, all, memb}
+use Rattle.common.specs.Lists.{all, memb}
 use Rattle.common.proofs.TestParts.{true_false, and_true, on_test}
-use Rattle.transcript.specs.declared.Admission.{Admission}
+use Rattle.std.specs.Prelude.{◌||◌}
+use Rattle.std.specs.Result.{is_ok}
+use Rattle.common.specs.Refusal.{number, refusal, outcome, outcome_number}
+use Rattle.common.proofs.Outcome.{number_of_refusal}
 use Rattle.transcript.specs.Transcript.{Transcript}
 use Rattle.transcript.specs.Orient.{oriented}
 use Rattle.transcript.specs.Admission.{bad_counts, bad_coordinates, bad_order, bad_bounds, bad_cds, bad_phase, bad_pad, index_of, index_fault, lacks_first, lacks_last, bad_segments, bad_selenocysteine, admission}
 use Rattle.transcript.specs.Question.{question_refusal}
 use Rattle.transcript.specs.claims.Numbers.{NumberGiven, AdmissionGiven, admission_numbers}
-use Rattle.transcript.specs.Numbers.{admission_number, is_admitted}
 
 -- the first refusal of two is among the numbers that both are among
 pub among_refuse : (ns : List ℕ) (b : Bool) (n later : ℕ) → memb n ns ≡ true → memb later ns ≡ true → memb (refuse b n later) ns ≡ true
@@ -28,7 +30,6 @@ among_else ns n later h k = on_test (eqb n 0) (λ e. rw e k) (λ e. rw e h)
 
 -- among some, all of which are among others
 pub among_in : (ns ms : List ℕ) → all (λ n. memb n ms) ns ≡ true → (n : ℕ) → memb n ns ≡ true → memb n ms ≡ true
-unfolding any all
 among_in [] ms h n k = absurd (true_false (sym k))
 among_in (x ∷ ns) ms h n k =
     let both = and_true (memb x ms) (all (λ n. memb n ms) ns) h in
@@ -46,8 +47,19 @@ module _ {A : Type 0} (number : A → ℕ) (answered : A → Bool) (refused : �
         zero_answered = ap (λ (n : ℕ). eqb n 0) same ∙ on_test (eqb w 0) (λ e. rw e (sym a)) (λ e. rw e (sym (not w)));
       }
 
+-- of an outcome
+pub outcome_given : {A : Type 0} (x : A) (ns : List ℕ) → all (λ n. eqb n 0 || eqb (number (refusal n)) n) ns ≡ true → (w : ℕ) → memb w ns ≡ true
+    → NumberGiven ns w (outcome_number (outcome w x)) (is_ok (outcome w x))
+outcome_given x ns h w m =
+    let same : outcome_number (outcome w x) ≡ w = on_test (eqb w 0) (λ e. rw e (sym (eqb-true w 0 e))) (λ e. rw e (number_of_refusal ns h w m e)) in
+    record {
+      refusal_is = same;
+      among = ap (λ (n : ℕ). memb n ns) same ∙ m;
+      zero_answered = ap (λ (n : ℕ). eqb n 0) same ∙ on_test (eqb w 0) (λ e. rw e) (λ e. rw e);
+    }
+
 index_among : (n : ℕ) (earlier is : List ℕ) → memb (index_fault n earlier is) admission_numbers ≡ true
-unfolding any index_fault
+unfolding index_fault
 index_among n earlier [] = refl
 index_among n earlier (i ∷ is) =
     among_refuse admission_numbers (leb n i) 8 (refuse (memb i earlier) 9 (index_fault n (i ∷ earlier) is)) refl
@@ -55,7 +67,7 @@ index_among n earlier (i ∷ is) =
 
 module _ (t : Transcript) where
   pub admission_among : memb (admission t) admission_numbers ≡ true
-  unfolding any admission
+  unfolding admission
   admission_among =
       among_refuse admission_numbers (bad_counts t) 1 _ refl
       (among_refuse admission_numbers (bad_coordinates t) 2 _ refl
@@ -77,4 +89,4 @@ module _ (t : Transcript) where
       among_else ns (admission t) (refuse bad 15 (refuse away 14 0)) h (among_refuse ns bad 15 (refuse away 14 0) h15 (among_refuse ns away 14 0 h14 h0))
 
 pub admission_given : AdmissionGiven
-admission_given t = given_by admission_number is_admitted Admission.Refused (λ n. refl) (λ n. refl) Admission.Admitted refl refl admission_numbers (admission t) (admission_among t)
+admission_given t = outcome_given tt admission_numbers refl (admission t) (admission_among t)

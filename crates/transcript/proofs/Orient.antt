@@ -11,8 +11,8 @@ use Rattle.common.proofs.TestParts.{and_true, same_test, true_false}
 use Rattle.common.proofs.Counting.{count_reflected}
 use Rattle.transcript.specs.declared.Strand.{Strand}
 use Rattle.transcript.specs.declared.Strand.TheVariants.{Plus, Minus}
+use Rattle.std.specs.Prelude.{Option, Some, None}
 use Rattle.transcript.specs.declared.CdsBounds.{CdsBounds}
-use Rattle.transcript.specs.declared.CdsBounds.TheVariants.{Neither, Both}
 use Rattle.transcript.specs.Limits.{top, coordinate_limit}
 use Rattle.transcript.specs.Transcript.{cds_start, cds_end, has_bounds}
 use Rattle.transcript.specs.Orient.{Interval, interval, orient, orient_base, orient_bounds}
@@ -47,21 +47,21 @@ orient_low Plus s e l = omega arith
 orient_low Minus s e l = omega arith
 
 -- the same of a CDS; without bounds it has no bases
-pub bounds_both : (σ : Strand) (b : CdsBounds) → has_bounds b ≡ true → orient_bounds σ b ≡ orient σ (cds_start b) (cds_end b)
-bounds_both σ Neither h = absurd (true_false (sym h))
-bounds_both σ (Both s e) h = refl
+pub bounds_both : (σ : Strand) (b : Option CdsBounds) → has_bounds b ≡ true → orient_bounds σ b ≡ orient σ (cds_start b) (cds_end b)
+bounds_both σ None h = absurd (true_false (sym h))
+bounds_both σ (Some b) h = refl
 
-pub bounds_some : (σ : Strand) (b : CdsBounds) → cds_end b ≤ coordinate_limit → cds_start b < cds_end b → (orient_bounds σ b).start < (orient_bounds σ b).end
-bounds_some σ Neither l h = absurd (omega arith)
-bounds_some σ (Both s e) l h = orient_some σ s e l h
+pub bounds_some : (σ : Strand) (b : Option CdsBounds) → cds_end b ≤ coordinate_limit → cds_start b < cds_end b → (orient_bounds σ b).start < (orient_bounds σ b).end
+bounds_some σ None l h = absurd (omega arith)
+bounds_some σ (Some b) l h = orient_some σ b.cds_genomic_start b.cds_genomic_end l h
 
-pub bounds_high : (σ : Strand) (b : CdsBounds) → cds_end b ≤ coordinate_limit → (orient_bounds σ b).end ≤ top
-bounds_high σ Neither l = omega arith
-bounds_high σ (Both s e) l = orient_high σ s e l
+pub bounds_high : (σ : Strand) (b : Option CdsBounds) → cds_end b ≤ coordinate_limit → (orient_bounds σ b).end ≤ top
+bounds_high σ None l = omega arith
+bounds_high σ (Some b) l = orient_high σ b.cds_genomic_start b.cds_genomic_end l
 
-pub bounds_none : (σ : Strand) (b : CdsBounds) → has_bounds b ≡ false → (orient_bounds σ b).end ≤ (orient_bounds σ b).start
-bounds_none σ Neither h = omega arith
-bounds_none σ (Both s e) h = absurd (true_false h)
+pub bounds_none : (σ : Strand) (b : Option CdsBounds) → has_bounds b ≡ false → (orient_bounds σ b).end ≤ (orient_bounds σ b).start
+bounds_none σ None h = omega arith
+bounds_none σ (Some b) h = absurd (true_false h)
 
 -- the base in the interval, as numbers
 pub inside_start : (p : ℕ) (x : Interval) → inside p x ≡ true → x.start ≤ p

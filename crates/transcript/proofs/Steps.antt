@@ -11,7 +11,7 @@ use lib.Seq.{drop-cons, drop-length, get_or-set_same, get_or-set_other}
 use lib.Dec.{leb, eqb}
 use borrow.Author.Tests.{le-leb, lt-leb, eqb-true, eqb-false}
 use Rattle.common.specs.Refuse.{refuse}
-use Rattle.common.specs.Lists.{any, memb}
+use Rattle.common.specs.Lists.{memb}
 use Rattle.common.proofs.TestParts.{on_test}
 use Rattle.transcript.specs.Orient.{Interval}
 use Rattle.transcript.specs.Admission.{ascending, index_fault}
@@ -42,7 +42,6 @@ pub record Seen (n : ℕ) (is : List ℕ) (seen : List Bool) (i : ℕ) : Type 0 
   pub same : index_fault n earlier (drop i is) ≡ index_fault n [] is
 
 pub seen_start : (n : ℕ) (is : List ℕ) → Seen n is (replicate 512 false) 0
-unfolding any
 seen_start n is = record { within = omega arith; long = refl; earlier = []; marks = λ k l. get_or-replicate 512 k false false l; same = refl }
 
 module _ (n : ℕ) (is : List ℕ) (seen : List Bool) (i : ℕ) (s : Seen n is seen i) (l : i < length is) where
@@ -57,7 +56,6 @@ module _ (n : ℕ) (is : List ℕ) (seen : List Bool) (i : ℕ) (s : Seen n is s
   index_again h m t = sym (sym s.same ∙ index_step ∙ rw (lt-leb n (get_or is i 0) h, sym (s.marks (get_or is i 0) (omega arith)) ∙ t))
 
   pub index_go : get_or is i 0 < n → n ≤ 512 → get_or seen (get_or is i 0) false ≡ false → Seen n is (set seen (get_or is i 0) true) (i + 1)
-  unfolding any
   index_go h m t =
       let g = s.long in
       record {

@@ -1,13 +1,13 @@
 -- Refusals 1 to 13: whether a transcript is admitted.
-use Rattle.std.specs.Prelude.{ℕ, ◌-◌, Bool, true, cond, not, ◌&&◌, ◌||◌, List, [], ◌∷◌, map, ◌≡◌, length, leb, ltb, eqb}
+use Rattle.std.specs.Prelude.{ℕ, ◌-◌, Bool, true, not, ◌&&◌, ◌||◌, List, [], ◌∷◌, Option, Some, None, Result, map, ◌≡◌, length, leb, ltb, eqb}
 use Rattle.common.specs.Refuse.{refuse, or_else}
+use Rattle.common.specs.declared.refusal.Refusal.{Refusal}
+use Rattle.common.specs.Refusal.{outcome}
 use Rattle.common.specs.Lists.{any, memb}
 use Rattle.transcript.specs.declared.TranscriptModel.{TranscriptModel}
 use Rattle.transcript.specs.declared.CdsBounds.{CdsBounds}
-use Rattle.transcript.specs.declared.CdsBounds.TheVariants.{Neither, Both}
 use Rattle.transcript.specs.declared.Exon.{Exon}
 use Rattle.transcript.specs.declared.CdsSegment.{CdsSegment}
-use Rattle.transcript.specs.declared.Admission.{Admission}
 use Rattle.transcript.specs.Limits.{max_exons, max_selenocysteine, coordinate_limit, last_chromosome}
 use Rattle.transcript.specs.Transcript.{Transcript, cds_start, cds_end, is_empty}
 use Rattle.transcript.specs.Orient.{Interval, orient, Oriented, oriented}
@@ -65,9 +65,9 @@ abbrev pub bad_bounds : Transcript → Oriented → Bool
 bad_bounds t o = not_outer (orient t.model.strand t.model.tx_start t.model.tx_end) o.exons
 
 -- CDS bounds without segments or the reverse, or CDS start not below end; `segments`: there are some
-abbrev pub bad_cds_bounds : CdsBounds → Bool → Bool
-bad_cds_bounds Neither segments = segments
-bad_cds_bounds (Both s e) segments = not segments || not (ltb s e)
+abbrev pub bad_cds_bounds : Option CdsBounds → Bool → Bool
+bad_cds_bounds None segments = segments
+bad_cds_bounds (Some b) segments = not segments || not (ltb b.cds_genomic_start b.cds_genomic_end)
 
 -- 5: CDS bounds without segments or the reverse, or CDS start not below end
 abbrev pub bad_cds : Transcript → Bool
@@ -136,5 +136,5 @@ abbrev pub Admitted : Transcript → Type 0
 Admitted t = admission t ≡ 0
 
 -- whether the transcript is admitted, as an answer
-abbrev pub admission_of : Transcript → Admission
-admission_of t = cond (eqb (admission t) 0) Admission.Admitted (Admission.Refused (admission t))
+abbrev pub admission_of : Transcript → Result (Unit {0}) Refusal
+admission_of t = outcome (admission t) tt

@@ -4,7 +4,6 @@ pub mod Orient
 pub mod Bases
 pub mod Cuts
 pub mod Admission
-pub mod Numbers
 pub mod Question
 pub mod code
 pub mod claims

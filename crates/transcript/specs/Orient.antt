@@ -1,10 +1,9 @@
 -- Oriented coordinates. On the plus strand a base keeps its coordinate; on the minus strand base p stands at top − 1 − p, and
 -- [s, e) at [top − e, top − s). So 5' is always below 3', exons ascend, and the definitions over them name no strand.
-use Rattle.std.specs.Prelude.{ℕ, ◌-◌, Bool, not, List, map}
+use Rattle.std.specs.Prelude.{ℕ, ◌-◌, Bool, not, List, Option, Some, None, map}
 use Rattle.transcript.specs.declared.Strand.{Strand}
 use Rattle.transcript.specs.declared.Strand.TheVariants.{Plus, Minus}
 use Rattle.transcript.specs.declared.CdsBounds.{CdsBounds}
-use Rattle.transcript.specs.declared.CdsBounds.TheVariants.{Neither, Both}
 use Rattle.transcript.specs.declared.Exon.{Exon}
 use Rattle.transcript.specs.declared.CdsSegment.{CdsSegment}
 use Rattle.transcript.specs.Limits.{top}
@@ -29,9 +28,9 @@ orient Plus s e = interval s e
 orient Minus s e = interval (top - e) (top - s)
 
 -- the CDS, oriented; without bounds it has no bases on either strand
-abbrev pub orient_bounds : Strand → CdsBounds → Interval
-orient_bounds strand Neither = interval 0 0
-orient_bounds strand (Both s e) = orient strand s e
+abbrev pub orient_bounds : Strand → Option CdsBounds → Interval
+orient_bounds strand None = interval 0 0
+orient_bounds strand (Some b) = orient strand b.cds_genomic_start b.cds_genomic_end
 
 abbrev pub orient_exon : Strand → Exon → Interval
 orient_exon strand x = orient strand x.genomic_start x.genomic_end

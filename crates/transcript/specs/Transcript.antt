@@ -1,9 +1,9 @@
 -- A transcript as it is handed in: its scalars, and its lists in strand order.
-use Rattle.std.specs.Prelude.{ℕ, ◌-◌, ◌%◌, Bool, true, false, cond, ◌&&◌, List, [], ◌∷◌, length, eqb}
+use Rattle.std.specs.Prelude.{ℕ, ◌-◌, ◌%◌, Bool, true, false, cond, ◌&&◌, List, [], ◌∷◌, Option, Some, None, length, eqb}
 use Rattle.common.specs.Slices.{Slice, Passed}
 use Rattle.transcript.specs.declared.TranscriptModel.{TranscriptModel}
 use Rattle.transcript.specs.declared.CdsBounds.{CdsBounds}
-use Rattle.transcript.specs.declared.CdsBounds.TheVariants.{Neither, Both}
+use Rattle.transcript.specs.declared.Transcript.{Transcript as Lent}
 use Rattle.transcript.specs.declared.Exon.{Exon}
 use Rattle.transcript.specs.declared.CdsSegment.{CdsSegment}
 
@@ -45,6 +45,19 @@ lent m starts ends phases indexes segment_starts segment_ends bases = record {
   selenocysteine = bases;
 }
 
+-- the transcript whose lists a struct lends
+abbrev pub transcript_of : Lent → Transcript
+transcript_of t =
+    lent
+    t.model
+    t.exons.starts.now
+    t.exons.ends.now
+    t.segments.phases.now
+    t.segments.exon_indexes.now
+    t.segments.bases.starts.now
+    t.segments.bases.ends.now
+    t.selenocysteine.now
+
 -- the transcript that is given, as a `requires` names it: `lent` of the slices' lists
 abbrev pub given : TranscriptModel → Slice → Slice → Slice → Slice → Slice → Slice → Slice → Transcript
 given m starts ends phases indexes segment_starts segment_ends bases =
@@ -56,17 +69,17 @@ was_given m starts ends phases indexes segment_starts segment_ends bases =
     given m starts.entry ends.entry phases.entry indexes.entry segment_starts.entry segment_ends.entry bases.entry
 
 -- the CDS bounds, and 0 where there are none
-abbrev pub cds_start : CdsBounds → ℕ
-cds_start Neither = 0
-cds_start (Both s e) = s
+abbrev pub cds_start : Option CdsBounds → ℕ
+cds_start None = 0
+cds_start (Some b) = b.cds_genomic_start
 
-abbrev pub cds_end : CdsBounds → ℕ
-cds_end Neither = 0
-cds_end (Both s e) = e
+abbrev pub cds_end : Option CdsBounds → ℕ
+cds_end None = 0
+cds_end (Some b) = b.cds_genomic_end
 
-abbrev pub has_bounds : CdsBounds → Bool
-has_bounds Neither = false
-has_bounds (Both s e) = true
+abbrev pub has_bounds : Option CdsBounds → Bool
+has_bounds None = false
+has_bounds (Some b) = true
 
 abbrev pub is_empty : {A : Type 0} → List A → Bool
 is_empty [] = true

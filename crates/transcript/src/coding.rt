@@ -1,130 +1,110 @@
 // Refusals 10 to 12: the first and the last coding base, and the segments against the exons.
-ghost use Rattle.std.specs.Prelude.{◌≡◌, true, false, map, ◌<◌, min, max, length, get_or};
+ghost use Rattle.std.specs.Prelude.{◌≡◌, true, false, ◌<◌, length, get_or};
 ghost use Rattle.common.specs.Lists.{any};
-ghost use Rattle.transcript.specs.Transcript.{exons_of};
-ghost use Rattle.transcript.specs.Orient.{interval, orient, orient_exon};
+ghost use Rattle.common.specs.Refusal.{outcome};
+ghost use Rattle.transcript.specs.Orient.{interval, orient};
 ghost use Rattle.transcript.specs.Admission.{bad_exon};
 ghost use Rattle.transcript.specs.Cuts.{cut_at, cuts, same_cut, same_cuts};
-ghost use Rattle.transcript.specs.code.Lent.{listed_cuts, Cuttable, cds_fault};
+ghost use Rattle.transcript.specs.code.Lent.{exons_in, oriented_in, cuts_in, IsCuttable, cds_fault};
+ghost use Rattle.transcript.specs.code.Judged.{IsCounted, IsBounded, frame_fault, lent_cds_fault};
 
-use super::Strand;
 use super::oriented::{end_within, first_base, last_base, start_within};
 use super::segments::holds_base;
-
-pub(crate) fn larger(a: u64, b: u64) -> u64
-    ensures { result ≡ max a b }
-{
-    if a < b { b } else { a }
-}
-
-pub(crate) fn smaller(a: u64, b: u64) -> u64
-    ensures { result ≡ min a b }
-{
-    if a < b { a } else { b }
-}
+use super::{CdsBounds, CdsSegments, Intervals, Strand, Transcript};
+use common::refusal::Refusal;
 
 // Whether segment k is [lo, hi), oriented, of exon i.
 pub(crate) fn is_cut(
-    indexes: &[u16],
-    starts: &[u64],
-    ends: &[u64],
+    segments: CdsSegments,
     strand: Strand,
     k: usize,
     i: usize,
     lo: u64,
     hi: u64,
 ) -> bool
-    requires starts_len { (length starts.now ≡ length indexes.now) × (length starts.now ≡ length ends.now) × (k < length indexes.now) }
-    requires ends_value { any bad_exon (exons_of starts.now ends.now) ≡ false }
-    ensures { let segment = orient strand (get_or starts.now k 0) (get_or ends.now k 0) in
-        result ≡ same_cut (cut_at (get_or indexes.now k 0) segment) (cut_at i (interval lo hi)) }
+    requires even { (length segments.bases.starts.now ≡ length segments.exon_indexes.now)
+        × (length segments.bases.starts.now ≡ length segments.bases.ends.now) }
+    requires in_bounds { k < length segments.exon_indexes.now }
+    requires good_edges { any bad_exon (exons_in segments.bases) ≡ false }
+    ensures { let bases = segments.entry.bases in
+        let segment = orient strand (get_or bases.starts.now k 0) (get_or bases.ends.now k 0) in
+        result ≡ same_cut (cut_at (get_or segments.entry.exon_indexes.now k 0) segment) (cut_at i (interval lo hi)) }
 {
-    let x = indexes[k] as usize;
-    if x != i {
-        return false;
-    }
-    let s = starts[k];
-    let e = ends[k];
-    if start_within(strand, s, e) != lo {
-        return false;
-    }
-    end_within(strand, s, e) == hi
+    let start = segments.bases.starts[k];
+    let end = segments.bases.ends[k];
+    segments.exon_indexes[k] as usize == i
+        && start_within(strand, start, end) == lo
+        && end_within(strand, start, end) == hi
 }
 
 // Whether the segments are the nonempty exon-CDS intersections in strand order, each with its exon's index.
 pub(crate) fn are_cuts(
-    starts: &[u64],
-    ends: &[u64],
+    exons: Intervals,
     strand: Strand,
-    cds_start: u64,
-    cds_end: u64,
-    seg_exons: &[u16],
-    seg_starts: &[u64],
-    seg_ends: &[u64],
+    cds: CdsBounds,
+    segments: CdsSegments,
 ) -> bool
-    requires { Cuttable starts.now ends.now cds_start cds_end seg_exons.now seg_starts.now seg_ends.now }
-    ensures { let listed = listed_cuts strand seg_exons.now seg_starts.now seg_ends.now in
-        let exons = map (orient_exon strand) (exons_of starts.now ends.now) in
-        result ≡ same_cuts listed (cuts (orient strand cds_start cds_end) 0 exons) }
+    requires { IsCuttable exons cds segments }
+    ensures { let bases = orient strand cds.cds_genomic_start cds.cds_genomic_end in
+        result ≡ same_cuts (cuts_in strand segments.entry) (cuts bases 0 (oriented_in strand exons.entry)) }
 {
-    let first = start_within(strand, cds_start, cds_end);
-    let past = end_within(strand, cds_start, cds_end);
+    let first = start_within(strand, cds.cds_genomic_start, cds.cds_genomic_end);
+    let past = end_within(strand, cds.cds_genomic_start, cds.cds_genomic_end);
     let mut k = 0;
-    let mut i = 0;
-    while i < starts.len() {
-        let s = starts[i];
-        let e = ends[i];
-        let lo = larger(start_within(strand, s, e), first);
-        let hi = smaller(end_within(strand, s, e), past);
-        if hi <= lo {
-            i += 1;
-            continue;
+    for i in 0..exons.starts.len() {
+        let start = exons.starts[i];
+        let end = exons.ends[i];
+        let lo = start_within(strand, start, end).max(first);
+        let hi = end_within(strand, start, end).min(past);
+        if lo < hi {
+            if k == segments.exon_indexes.len() || !is_cut(segments, strand, k, i, lo, hi) {
+                return false;
+            }
+            k += 1;
         }
-        if k == seg_exons.len() {
-            return false;
-        }
-        if !is_cut(seg_exons, seg_starts, seg_ends, strand, k, i, lo, hi) {
-            return false;
-        }
-        k += 1;
-        i += 1;
     }
-    k == seg_exons.len()
+    k == segments.exon_indexes.len()
 }
 
-// 10, 11, 12: the first and the last coding base, and the segments. `coding`: there are segments.
-pub(crate) fn cds_fault(
-    coding: bool,
-    starts: &[u64],
-    ends: &[u64],
+// 10, 11, 12: the first and the last coding base, and the segments.
+pub(crate) fn judge_cds(
+    exons: Intervals,
     strand: Strand,
-    cds_start: u64,
-    cds_end: u64,
-    seg_exons: &[u16],
-    seg_starts: &[u64],
-    seg_ends: &[u64],
-) -> u8
-    requires cuttable { Cuttable starts.now ends.now cds_start cds_end seg_exons.now seg_starts.now seg_ends.now }
-    requires cds_start_lt_cds_end { coding ≡ true → cds_start < cds_end }
-    ensures { let listed = listed_cuts strand seg_exons.now seg_starts.now seg_ends.now in
-        let exons = map (orient_exon strand) (exons_of starts.now ends.now) in
-        result ≡ cds_fault coding (orient strand cds_start cds_end) exons listed }
+    cds: CdsBounds,
+    segments: CdsSegments,
+) -> Result<(), Refusal>
+    requires cuttable { IsCuttable exons cds segments }
+    requires ordered { cds.cds_genomic_start < cds.cds_genomic_end }
+    ensures { let bases = orient strand cds.cds_genomic_start cds.cds_genomic_end in
+        result ≡ outcome (cds_fault true bases (oriented_in strand exons.entry) (cuts_in strand segments.entry)) tt }
 {
-    if !coding {
-        return 0;
+    let first = first_base(strand, cds.cds_genomic_start, cds.cds_genomic_end);
+    if !holds_base(exons, first) {
+        return Err(Refusal::FirstCodingBase);
     }
-    let first = first_base(strand, cds_start, cds_end);
-    if !holds_base(starts, ends, first) {
-        return 10;
+    let last = last_base(strand, cds.cds_genomic_start, cds.cds_genomic_end);
+    if !holds_base(exons, last) {
+        return Err(Refusal::LastCodingBase);
     }
-    let last = last_base(strand, cds_start, cds_end);
-    if !holds_base(starts, ends, last) {
-        return 11;
+    if !are_cuts(exons, strand, cds, segments) {
+        return Err(Refusal::Segments);
     }
-    if !are_cuts(
-        starts, ends, strand, cds_start, cds_end, seg_exons, seg_starts, seg_ends,
-    ) {
-        return 12;
-    }
-    0
+    Ok(())
+}
+
+// 10, 11, 12 of a transcript, which has neither bounds nor segments where it is not coding.
+pub(crate) fn judge_segments(transcript: &Transcript) -> Result<(), Refusal>
+    requires known { IsCounted transcript.now × IsBounded transcript.now }
+    requires framed { frame_fault transcript.now ≡ 0 }
+    ensures { result ≡ outcome (lent_cds_fault transcript.now) tt }
+{
+    let Some(cds) = transcript.model.cds else {
+        return Ok(());
+    };
+    judge_cds(
+        transcript.exons,
+        transcript.model.strand,
+        cds,
+        transcript.segments,
+    )
 }

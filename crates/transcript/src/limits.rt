@@ -1,159 +1,116 @@
 // Refusals 1 and 2: the numbers of things, their coordinates and the chromosome.
-ghost use Rattle.std.specs.Prelude.{◌≡◌, length};
-ghost use Rattle.common.specs.Lists.{any};
-ghost use Rattle.transcript.specs.Transcript.{exons_of, even_lengths, cds_start, cds_end};
-ghost use Rattle.transcript.specs.Admission.{bad_numbers, bad_exon, over_limit, bad_scalars};
-ghost use Rattle.transcript.specs.code.Lent.{bad_were_listed};
+ghost use Rattle.std.specs.Prelude.{◌≡◌};
+ghost use Rattle.std.specs.List.{list_any};
+ghost use Rattle.common.specs.Refuse.{refuse};
+ghost use Rattle.common.specs.Refusal.{outcome};
+ghost use Rattle.transcript.specs.Transcript.{even_lists, cds_start, cds_end};
+ghost use Rattle.transcript.specs.Admission.{bad_numbers, bad_edges, over_limit, bad_scalars};
+ghost use Rattle.transcript.specs.code.Lent.{any_lent};
+ghost use Rattle.transcript.specs.code.Judged.{bad_lengths, bad_lent};
 
-use super::{CdsBounds, TranscriptModel};
+use super::{CdsBounds, CdsSegments, Intervals, Transcript, TranscriptModel};
+use common::refusal::Refusal;
 
 // The largest coordinate of a transcript.
 const LIMIT: u64 = 1_000_000_000;
 
 // 1: whether lists of one thing have one length.
-pub(crate) fn are_even(
-    starts: usize,
-    ends: usize,
-    phases: usize,
-    indexes: usize,
-    firsts: usize,
-    lasts: usize,
-) -> bool
-    ensures { result ≡ even_lengths starts ends phases indexes firsts lasts }
+pub(crate) fn are_even(exons: Intervals, segments: CdsSegments) -> bool
+    ensures { let bases = segments.entry.bases in
+        result ≡ even_lists exons.entry.starts.now exons.entry.ends.now segments.entry.phases.now segments.entry.exon_indexes.now bases.starts.now bases.ends.now }
 {
-    if starts != ends {
-        return false;
-    }
-    if firsts != phases {
-        return false;
-    }
-    if firsts != indexes {
-        return false;
-    }
-    firsts == lasts
+    let bases = segments.bases;
+    let n = bases.starts.len();
+    exons.starts.len() == exons.ends.len()
+        && n == segments.phases.len()
+        && n == segments.exon_indexes.len()
+        && n == bases.ends.len()
 }
 
 // 1: the lengths of the lists.
 pub(crate) fn bad_numbers(count: u16, exons: usize, segments: usize, bases: usize) -> bool
     ensures { result ≡ bad_numbers count exons segments bases }
 {
-    if exons == 0 {
-        return true;
-    }
-    if 512 < exons {
-        return true;
-    }
-    if count as usize != exons {
-        return true;
-    }
-    if exons < segments {
-        return true;
-    }
-    64 < bases
+    exons == 0 || 512 < exons || count as usize != exons || exons < segments || 64 < bases
 }
 
 // 2: an interval whose start is not below its end or whose end is over the limit.
-pub(crate) fn bad_edges(starts: &[u64], ends: &[u64]) -> bool
-    requires { length starts.now ≡ length ends.now }
-    ensures { result ≡ any bad_exon (exons_of starts.now ends.now) }
+pub(crate) fn bad_edges(intervals: Intervals) -> bool
+    ensures { result ≡ any_lent bad_edges intervals.entry }
 {
-    let mut i = 0;
-    while i < starts.len() {
-        let s = starts[i];
-        let e = ends[i];
-        if e <= s {
-            return true;
-        }
-        if LIMIT < e {
-            return true;
-        }
-        i += 1;
-    }
-    false
+    intervals
+        .starts
+        .iter()
+        .zip(intervals.ends)
+        .any(|(start, end)| end <= start || LIMIT < *end)
 }
 
-// 2: a base over the limit.
-pub(crate) fn bad_bases(bases: &[u64]) -> bool
-    ensures { result ≡ any over_limit bases.now }
-{
-    let mut i = 0;
-    while i < bases.len() {
-        if LIMIT < bases[i] {
-            return true;
-        }
-        i += 1;
-    }
-    false
-}
-
-pub fn start_or_zero(cds: CdsBounds) -> u64
+pub fn start_or_zero(cds: Option<CdsBounds>) -> u64
     ensures { result ≡ cds_start cds }
 {
-    match cds {
-        CdsBounds::Neither => 0,
-        CdsBounds::Both {
-            cds_genomic_start,
-            cds_genomic_end,
-        } => cds_genomic_start,
-    }
+    cds.map_or(0, |bounds| bounds.cds_genomic_start)
 }
 
-pub fn end_or_zero(cds: CdsBounds) -> u64
+pub fn end_or_zero(cds: Option<CdsBounds>) -> u64
     ensures { result ≡ cds_end cds }
 {
-    match cds {
-        CdsBounds::Neither => 0,
-        CdsBounds::Both {
-            cds_genomic_start,
-            cds_genomic_end,
-        } => cds_genomic_end,
-    }
+    cds.map_or(0, |bounds| bounds.cds_genomic_end)
 }
 
 // 2: the bounds and the chromosome.
 pub(crate) fn bad_scalars(model: TranscriptModel) -> bool
     ensures { result ≡ bad_scalars model }
 {
-    let cds = model.cds;
-    if LIMIT < model.tx_start {
-        return true;
+    LIMIT < model.tx_start
+        || LIMIT < model.tx_end
+        || LIMIT < start_or_zero(model.cds)
+        || LIMIT < end_or_zero(model.cds)
+        || model.chromosome == 0
+        || 25 < model.chromosome
+}
+
+// 1: the lengths of the lists.
+pub(crate) fn judge_counts(transcript: &Transcript) -> Result<(), Refusal>
+    ensures { result ≡ outcome (refuse (bad_lengths transcript.now) 1 0) tt }
+{
+    let exons = transcript.exons;
+    let segments = transcript.segments;
+    if !are_even(exons, segments) {
+        return Err(Refusal::Counts);
     }
-    if LIMIT < model.tx_end {
-        return true;
+    if bad_numbers(
+        transcript.model.exon_count,
+        exons.starts.len(),
+        segments.bases.starts.len(),
+        transcript.selenocysteine.len(),
+    ) {
+        return Err(Refusal::Counts);
     }
-    if LIMIT < start_or_zero(cds) {
-        return true;
-    }
-    if LIMIT < end_or_zero(cds) {
-        return true;
-    }
-    if model.chromosome == 0 {
-        return true;
-    }
-    25 < model.chromosome
+    Ok(())
+}
+
+// 2: a base over the limit.
+fn bad_bases(bases: &[u64]) -> bool
+    ensures { result ≡ list_any over_limit bases.now }
+{
+    bases.iter().any(|base| LIMIT < *base)
 }
 
 // 2: edges, bases, bounds and chromosome.
-pub(crate) fn bad_coordinates(
-    model: TranscriptModel,
-    exon_starts: &[u64],
-    exon_ends: &[u64],
-    seg_starts: &[u64],
-    seg_ends: &[u64],
-    bases: &[u64],
-) -> bool
-    requires exon_starts_len { length exon_starts.now ≡ length exon_ends.now }
-    requires seg_starts_len { length seg_starts.now ≡ length seg_ends.now }
-    ensures { result ≡ bad_were_listed model exon_starts exon_ends seg_starts seg_ends bases }
+fn bad_coordinates(transcript: &Transcript) -> bool
+    ensures { result ≡ bad_lent transcript.now }
 {
-    if bad_edges(exon_starts, exon_ends) {
-        return true;
+    bad_edges(transcript.exons)
+        || bad_edges(transcript.segments.bases)
+        || bad_bases(transcript.selenocysteine)
+        || bad_scalars(transcript.model)
+}
+
+pub(crate) fn judge_coordinates(transcript: &Transcript) -> Result<(), Refusal>
+    ensures { result ≡ outcome (refuse (bad_lent transcript.now) 2 0) tt }
+{
+    if bad_coordinates(transcript) {
+        return Err(Refusal::Coordinates);
     }
-    if bad_edges(seg_starts, seg_ends) {
-        return true;
-    }
-    if bad_bases(bases) {
-        return true;
-    }
-    bad_scalars(model)
+    Ok(())
 }

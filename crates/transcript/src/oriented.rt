@@ -8,16 +8,6 @@ use super::Strand;
 // Above every coordinate.
 const TOP: u64 = 2_000_000_000;
 
-// How far x lies below y, 0 where it does not.
-pub(crate) fn below(y: u64, x: u64) -> u64
-    ensures { result ≡ y - x }
-{
-    if y < x {
-        return 0;
-    }
-    y - x
-}
-
 // The first base of [s, e), oriented, where e is not above `top`: admission, which has tested that, spends no further test.
 pub(crate) fn start_within(strand: Strand, s: u64, e: u64) -> u64
     requires { e ≤ top }
@@ -46,7 +36,7 @@ pub fn start_of(strand: Strand, s: u64, e: u64) -> u64
 {
     match strand {
         Strand::Plus => s,
-        Strand::Minus => below(TOP, e),
+        Strand::Minus => TOP.saturating_sub(e),
     }
 }
 
@@ -56,7 +46,7 @@ pub fn end_of(strand: Strand, s: u64, e: u64) -> u64
 {
     match strand {
         Strand::Plus => e,
-        Strand::Minus => below(TOP, s),
+        Strand::Minus => TOP.saturating_sub(s),
     }
 }
 

@@ -1,24 +1,12 @@
-// What every question shares: the number of a refused admission, and the tests of 15.
+// What every question shares: oriented bases, and the tests of 15.
 ghost use Rattle.std.specs.Prelude.{◌≡◌, ◌||◌, eqb};
 ghost use Rattle.transcript.specs.Orient.{orient_base};
-ghost use Rattle.transcript.specs.Numbers.{admission_number};
 ghost use Rattle.transcript.specs.Question.{bad_interval};
 
-use super::oriented::below;
-use super::{Admission, Strand};
+use super::Strand;
 
 // The largest start or end of a query.
 pub const QUERY_LIMIT: u64 = 1_000_010_000;
-
-// The refusal's number, 0 where the transcript is admitted.
-pub fn refusal_number(a: Admission) -> u8
-    ensures { result ≡ admission_number a }
-{
-    match a {
-        Admission::Admitted => 0,
-        Admission::Refused(n) => n,
-    }
-}
 
 // A base in oriented coordinates.
 pub fn base_of(strand: Strand, p: u64) -> u64
@@ -26,7 +14,7 @@ pub fn base_of(strand: Strand, p: u64) -> u64
 {
     match strand {
         Strand::Plus => p,
-        Strand::Minus => below(1_999_999_999, p),
+        Strand::Minus => 1_999_999_999u64.saturating_sub(p),
     }
 }
 
@@ -34,21 +22,12 @@ pub fn base_of(strand: Strand, p: u64) -> u64
 pub fn bad_interval(s: u64, e: u64) -> bool
     ensures { result ≡ bad_interval s e }
 {
-    if QUERY_LIMIT < s {
-        return true;
-    }
-    if QUERY_LIMIT < e {
-        return true;
-    }
-    e < s
+    QUERY_LIMIT < s || QUERY_LIMIT < e || e < s
 }
 
 // The same of a question that may not be empty.
 pub fn bad_place(s: u64, e: u64) -> bool
     ensures { result ≡ (bad_interval s e || eqb s e) }
 {
-    if bad_interval(s, e) {
-        return true;
-    }
-    s == e
+    bad_interval(s, e) || s == e
 }

@@ -1,73 +1,68 @@
 // Refusals 8, 9 and 13: exon indexes and selenocysteine bases.
-ghost use Rattle.std.specs.Prelude.{◌≡◌, [], ◌≤◌, length};
-ghost use Rattle.common.specs.Lists.{any};
+ghost use Rattle.std.specs.Prelude.{◌≡◌, [], ◌≤◌};
+ghost use Rattle.std.specs.List.{list_any};
+ghost use Rattle.common.specs.Refuse.{refuse};
+ghost use Rattle.common.specs.Refusal.{outcome};
 ghost use Rattle.transcript.specs.Limits.{max_exons};
-ghost use Rattle.transcript.specs.Transcript.{exons_of};
 ghost use Rattle.transcript.specs.Orient.{interval};
 ghost use Rattle.transcript.specs.Bases.{inside};
 ghost use Rattle.transcript.specs.Admission.{index_fault};
-ghost use Rattle.transcript.specs.code.Lent.{holds, holds_none};
+ghost use Rattle.transcript.specs.code.Lent.{any_lent};
+ghost use Rattle.transcript.specs.code.Judged.{lent_none};
+
+use super::{Intervals, Transcript};
+use common::refusal::Refusal;
 
 // 8, 9: the first index that names no exon, or one that an earlier index names.
-pub(crate) fn index_fault(exons: usize, indexes: &[u16]) -> u8
+pub(crate) fn judge_indexes(exons: usize, indexes: &[u16]) -> Result<(), Refusal>
     requires { exons ≤ max_exons }
-    ensures { result ≡ index_fault exons [] indexes.now }
+    ensures { result ≡ outcome (index_fault exons [] indexes.now) tt }
 {
     let mut seen = [false; 512];
-    let mut i = 0;
-    while i < indexes.len() {
-        let k = indexes[i] as usize;
+    for index in indexes {
+        let k = *index as usize;
         if exons <= k {
-            return 8;
+            return Err(Refusal::MissingExon);
         }
         if seen[k] {
-            return 9;
+            return Err(Refusal::RepeatedExon);
         }
         seen[k] = true;
-        i += 1;
     }
-    0
+    Ok(())
 }
 
 // Whether [s, e) holds the base.
 pub fn lies_in(p: u64, s: u64, e: u64) -> bool
     ensures { result ≡ inside p (interval s e) }
 {
-    if p < s {
-        return false;
-    }
-    p < e
+    s <= p && p < e
 }
 
 // Whether one of the intervals holds the base.
-pub(crate) fn holds_base(starts: &[u64], ends: &[u64], p: u64) -> bool
-    requires { length starts.now ≡ length ends.now }
-    ensures { result ≡ any (holds p) (exons_of starts.now ends.now) }
+pub(crate) fn holds_base(intervals: Intervals, p: u64) -> bool
+    ensures { result ≡ any_lent (λ s e. inside p (interval s e)) intervals.entry }
 {
-    let mut i = 0;
-    while i < starts.len() {
-        let s = starts[i];
-        let e = ends[i];
-        if lies_in(p, s, e) {
-            return true;
-        }
-        i += 1;
-    }
-    false
+    intervals
+        .starts
+        .iter()
+        .zip(intervals.ends)
+        .any(|(start, end)| lies_in(p, *start, *end))
 }
 
 // 13: a base that no segment holds.
-pub(crate) fn bad_selenocysteine(bases: &[u64], starts: &[u64], ends: &[u64]) -> bool
-    requires { length starts.now ≡ length ends.now }
-    ensures { result ≡ any (holds_none (exons_of starts.now ends.now)) bases.now }
+fn bad_selenocysteine(bases: &[u64], segments: Intervals) -> bool
+    ensures { result ≡ list_any (lent_none segments.entry) bases.now }
 {
-    let mut i = 0;
-    while i < bases.len() {
-        let b = bases[i];
-        if !holds_base(starts, ends, b) {
-            return true;
-        }
-        i += 1;
+    bases.iter().any(|base| !holds_base(segments, *base))
+}
+
+pub(crate) fn judge_selenocysteine(transcript: &Transcript) -> Result<(), Refusal>
+    ensures { let t = transcript.now in
+        result ≡ outcome (refuse (list_any (lent_none t.segments.bases) t.selenocysteine.now) 13 0) tt }
+{
+    if bad_selenocysteine(transcript.selenocysteine, transcript.segments.bases) {
+        return Err(Refusal::Selenocysteine);
     }
-    false
+    Ok(())
 }

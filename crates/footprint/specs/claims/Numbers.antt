@@ -5,7 +5,8 @@ use Rattle.transcript.specs.Question.{interval_refusal}
 use Rattle.transcript.specs.claims.Numbers.{NumberGiven}
 use Rattle.footprint.specs.declared.Ranges.{Ranges}
 use Rattle.footprint.specs.Question.{flank, short_intron, spill}
-use Rattle.footprint.specs.Numbers.{flanked_number, endpoint_number, spilled_number, is_flanked, is_endpoint, is_spilled}
+use Rattle.common.specs.Refusal.{outcome_number}
+use Rattle.std.specs.Result.{is_ok}
 
 abbrev pub question_numbers : List ℕ
 question_numbers = 0 ∷ 1 ∷ 2 ∷ 3 ∷ 4 ∷ 5 ∷ 6 ∷ 7 ∷ 8 ∷ 9 ∷ 10 ∷ 11 ∷ 12 ∷ 13 ∷ 15 ∷ 14 ∷ []
@@ -13,14 +14,14 @@ question_numbers = 0 ∷ 1 ∷ 2 ∷ 3 ∷ 4 ∷ 5 ∷ 6 ∷ 7 ∷ 8 ∷ 9 ∷ 1
 abbrev pub FlankGiven : Type 0
 FlankGiven =
     (r : Ranges) (t : Transcript) (chromosome s e : ℕ) →
-    NumberGiven question_numbers (interval_refusal t chromosome s e) (flanked_number (flank r t chromosome s e)) (is_flanked (flank r t chromosome s e))
+    NumberGiven question_numbers (interval_refusal t chromosome s e) (outcome_number (flank r t chromosome s e)) (is_ok (flank r t chromosome s e))
 
 abbrev pub ShortIntronGiven : Type 0
 ShortIntronGiven =
     (t : Transcript) (chromosome s e : ℕ) →
-    NumberGiven question_numbers (interval_refusal t chromosome s e) (endpoint_number (short_intron t chromosome s e)) (is_endpoint (short_intron t chromosome s e))
+    NumberGiven question_numbers (interval_refusal t chromosome s e) (outcome_number (short_intron t chromosome s e)) (is_ok (short_intron t chromosome s e))
 
 abbrev pub SpillGiven : Type 0
 SpillGiven =
     (t : Transcript) (chromosome s e : ℕ) →
-    NumberGiven question_numbers (interval_refusal t chromosome s e) (spilled_number (spill t chromosome s e)) (is_spilled (spill t chromosome s e))
+    NumberGiven question_numbers (interval_refusal t chromosome s e) (outcome_number (spill t chromosome s e)) (is_ok (spill t chromosome s e))

@@ -3,7 +3,8 @@ use Rattle.std.specs.Prelude.{ℕ, ◌≡◌, Bool, true, List, [], ◌∷◌, e
 use Rattle.common.specs.Lists.{memb}
 use Rattle.transcript.specs.Transcript.{Transcript}
 use Rattle.transcript.specs.Admission.{admission, admission_of}
-use Rattle.transcript.specs.Numbers.{admission_number, is_admitted}
+use Rattle.common.specs.Refusal.{outcome_number}
+use Rattle.std.specs.Result.{is_ok}
 
 -- demand 1 of a question: its answer's number is that of the refusal, it is one of the numbers given,
 -- and it is 0 exactly where the question is answered
@@ -16,4 +17,4 @@ abbrev pub admission_numbers : List ℕ
 admission_numbers = 0 ∷ 1 ∷ 2 ∷ 3 ∷ 4 ∷ 5 ∷ 6 ∷ 7 ∷ 8 ∷ 9 ∷ 10 ∷ 11 ∷ 12 ∷ 13 ∷ []
 
 abbrev pub AdmissionGiven : Type 0
-AdmissionGiven = (t : Transcript) → NumberGiven admission_numbers (admission t) (admission_number (admission_of t)) (is_admitted (admission_of t))
+AdmissionGiven = (t : Transcript) → NumberGiven admission_numbers (admission t) (outcome_number (admission_of t)) (is_ok (admission_of t))

@@ -1,11 +1,14 @@
 -- Tests over lists that are lent apart, as the code reads them.
 use Rattle.std.specs.Prelude.{ℕ, ◌-◌, ◌%◌, ◌≤◌, ◌≡◌, length, Bool, false, not, ◌&&◌, ◌||◌, List, [], ◌∷◌, map, ltb}
 use Rattle.common.specs.Refuse.{refuse}
-use Rattle.common.specs.Slices.{Passed}
+use Rattle.std.specs.List.{list_any, zip}
 use Rattle.common.specs.Lists.{any}
 use Rattle.transcript.specs.declared.Strand.{Strand}
 use Rattle.transcript.specs.declared.TranscriptModel.{TranscriptModel}
 use Rattle.transcript.specs.declared.Exon.{Exon}
+use Rattle.transcript.specs.declared.CdsBounds.{CdsBounds}
+use Rattle.transcript.specs.declared.Intervals.{Intervals}
+use Rattle.transcript.specs.declared.CdsSegments.{CdsSegments}
 use Rattle.transcript.specs.Limits.{coordinate_limit}
 use Rattle.transcript.specs.Transcript.{exons_of}
 use Rattle.transcript.specs.Orient.{Interval, interval, orient, orient_exon}
@@ -16,6 +19,17 @@ use Rattle.transcript.specs.Admission.{bad_exon, over_limit, bad_scalars}
 -- exons that are lent as two lists, oriented
 abbrev pub lent_exons : Strand → List ℕ → List ℕ → List Interval
 lent_exons strand starts ends = map (orient_exon strand) (exons_of starts ends)
+
+-- the exons, or segments, of a struct that lends them
+abbrev pub exons_in : Intervals → List Exon
+exons_in x = exons_of x.starts.now x.ends.now
+
+abbrev pub oriented_in : Strand → Intervals → List Interval
+oriented_in strand x = lent_exons strand x.starts.now x.ends.now
+
+-- some interval, its start and its end side by side, passes the test
+abbrev pub any_lent : (ℕ → ℕ → Bool) → Intervals → Bool
+any_lent f x = list_any (λ p. f p.0 p.1) (zip x.starts.now x.ends.now)
 
 -- the length of an exon
 abbrev pub exon_size : Exon → ℕ
@@ -39,6 +53,9 @@ listed_cuts strand (i ∷ is) [] es = []
 listed_cuts strand (i ∷ is) (s ∷ ss) [] = []
 listed_cuts strand (i ∷ is) (s ∷ ss) (e ∷ es) = cut_at i (orient strand s e) ∷ listed_cuts strand is ss es
 
+abbrev pub cuts_in : Strand → CdsSegments → List Cut
+cuts_in strand g = listed_cuts strand g.exon_indexes.now g.bases.starts.now g.bases.ends.now
+
 -- the pad of segments with these phases
 abbrev pub pad_of_phases : List ℕ → ℕ
 pad_of_phases [] = 0
@@ -54,15 +71,14 @@ pub record Cuttable (starts ends : List ℕ) (cds_start cds_end : ℕ) (indexes 
   pub even_ends : length segment_starts ≡ length segment_ends
   pub segment_edges : any bad_exon (exons_of segment_starts segment_ends) ≡ false
 
+abbrev pub IsCuttable : Intervals → CdsBounds → CdsSegments → Type 0
+IsCuttable x cds g =
+    Cuttable x.starts.now x.ends.now cds.cds_genomic_start cds.cds_genomic_end g.exon_indexes.now g.bases.starts.now g.bases.ends.now
+
 -- 2, of lists of numbers
 abbrev pub bad_listed : TranscriptModel → List ℕ → List ℕ → List ℕ → List ℕ → List ℕ → Bool
 bad_listed m starts ends segment_starts segment_ends bases =
     any bad_exon (exons_of starts ends) || (any bad_exon (exons_of segment_starts segment_ends) || (any over_limit bases || bad_scalars m))
-
--- the same of slices that were given, as an `ensures` names them
-abbrev pub bad_were_listed : TranscriptModel → Passed → Passed → Passed → Passed → Passed → Bool
-bad_were_listed m starts ends segment_starts segment_ends bases =
-    bad_listed m starts.entry.now ends.entry.now segment_starts.entry.now segment_ends.entry.now bases.entry.now
 
 -- 10, 11, 12: of a CDS, exons and segments in oriented coordinates
 abbrev pub cds_fault : Bool → Interval → List Interval → List Cut → ℕ

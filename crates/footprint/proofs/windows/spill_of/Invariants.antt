@@ -1,15 +1,8 @@
-use Prim.Native.Nat.{◌-◌, ◌≤◌}
-use lib.ListN.{length}
-use Rattle.transcript.specs.Orient.{interval}
-use Rattle.footprint.specs.code.Lent.{lent_gaps}
+use Rattle.footprint.specs.code.Lent.{span_of, gaps_in}
 use Rattle.footprint.specs.ShortIntron.{donor_window, acceptor_window}
 use Rattle.footprint.proofs.Spills.{Gathered}
 use Rattle.footprint.proofs.windows.spill_of.Given as goal
 
 abbrev pub invariant-loop-i : goal.invariant-loop-i
-invariant-loop-i l = (l.i ≤ length l.starts - 1)
-    × Gathered donor_window (interval l.from l.to) (lent_gaps l.strand l.starts l.ends) l.donor l.i
-    × Gathered acceptor_window (interval l.from l.to) (lent_gaps l.strand l.starts l.ends) l.acceptor l.i
-
-abbrev pub decreases-loop-i : goal.decreases-loop-i
-decreases-loop-i l = length l.starts - l.i
+invariant-loop-i l =
+    Gathered donor_window (span_of l.q) (gaps_in l.strand l.exons) l.donor l.i × Gathered acceptor_window (span_of l.q) (gaps_in l.strand l.exons) l.acceptor l.i

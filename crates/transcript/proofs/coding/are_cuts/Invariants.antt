@@ -1,10 +1,7 @@
-use Prim.Native.Nat.{◌-◌}
-use lib.ListN.{length}
 use Rattle.transcript.proofs.Matched.{Matched}
 use Rattle.transcript.proofs.coding.are_cuts.Given as goal
 
 abbrev pub invariant-loop-i : goal.invariant-loop-i
-invariant-loop-i l = Matched l.strand l.starts l.ends l.cds_start l.cds_end l.seg_exons l.seg_starts l.seg_ends l.k l.i
-
-abbrev pub decreases-loop-i : goal.decreases-loop-i
-decreases-loop-i l = length l.starts - l.i
+invariant-loop-i l =
+    let x = l.exons in let g = l.segments in let cds = l.fn.cds in
+    Matched l.strand x.starts.now x.ends.now cds.cds_genomic_start cds.cds_genomic_end g.exon_indexes.now g.bases.starts.now g.bases.ends.now l.k l.i

@@ -1,4 +1,0 @@
-use Rattle.transcript.proofs.oriented.end_within.Goals as goal
-
-pub returns-in-Minus : goal.returns-in-Minus
-returns-in-Minus c = rw c.in-Minus.is
