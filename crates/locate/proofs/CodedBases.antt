@@ -30,7 +30,6 @@ pub base_low : (bs : List ℕ) (i : ℕ) → any over_limit bs ≡ false → i <
 base_low bs i h l = ltb-false coordinate_limit (get_or bs i 0) (none_at over_limit bs i h l)
 
 some_interval : (xs : List Interval) (p : ℕ) → inside_any p xs ≡ true → 0 < length xs
-unfolding any
 some_interval [] p h = absurd (true_false (sym h))
 some_interval (x ∷ xs) p h = omega arith
 

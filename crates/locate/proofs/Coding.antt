@@ -8,7 +8,6 @@ use native.Mathlib.Omega.{arith}
 use lib.ListN.{length}
 use lib.Dec.{leb, ltb}
 use borrow.Author.Tests.{ltb-true, ltb-false, leb-true, leb-false, lt-ltb, le-ltb, le-leb, lt-leb}
-use Rattle.common.specs.Lists.{any}
 use Rattle.common.proofs.TestParts.{on_test, true_false}
 use Rattle.transcript.specs.declared.CdsSegment.{CdsSegment}
 use Rattle.locate.specs.declared.VariantLocation.{VariantLocation}
@@ -32,7 +31,7 @@ is_exon outside = false
 
 -- the walk ends at an exon exactly where an exon holds the base
 pub found_after : (i e : ℕ) (xs : List Interval) (p : ℕ) → Ascends e xs → e ≤ p → is_exon (find_after i e xs p) ≡ inside_any p xs
-unfolding find_after any
+unfolding find_after
 found_after i e [] p a l = refl
 found_after i e (x ∷ xs) p a l =
     on_test (ltb p x.start)
@@ -43,7 +42,7 @@ found_after i e (x ∷ xs) p a l =
     (λ k. rw (h, k, le-leb x.start p s) (found_after (suc i) x.end xs p a.2 (ltb-false p x.end k)))))
 
 pub found_exon : (xs : List Interval) (p : ℕ) → Ascends 0 xs → first_start xs ≤ p → is_exon (find_exon_or_intron xs p) ≡ inside_any p xs
-unfolding find_exon_or_intron any
+unfolding find_exon_or_intron
 found_exon [] p a l = refl
 found_exon (x ∷ xs) p a l =
     on_test (ltb p x.end)
@@ -99,7 +98,7 @@ place_coding r t p a =
     ∙ ap (λ (b : Bool). (t.coding && inside p t.cds) && b) (found_exon t.exons p a (ltb-false p (first_start t.exons) h)))))
 
 segments_none : (t : Transcript) (p : ℕ) → (oriented t).coding ≡ false → inside_any p (oriented t).segments ≡ false
-unfolding oriented any
+unfolding oriented
 segments_none t p c = ap (λ (gs : List CdsSegment). inside_any p (map (orient_segment t.model.strand) gs)) (empty_list t.segments c)
 
 module _ (t : Transcript) (f : Facts t) where

@@ -25,7 +25,8 @@ use Rattle.transcript.proofs.Ascends.{Ascends}
 use Rattle.transcript.proofs.Admitted.{facts}
 use Rattle.footprint.specs.declared.Ranges.{Ranges}
 use Rattle.locate.specs.declared.VariantLocation.{VariantLocation}
-use Rattle.locate.specs.declared.Located.{Located}
+use Rattle.std.specs.Prelude.{Ok, Err}
+use Rattle.common.specs.Refusal.{refusal}
 use Rattle.locate.specs.Place.{cds_offset, cdna_position, cdna_of_offset, locate}
 use Rattle.locate.specs.PlaceKind.{is_cds_exon, place_offset}
 use Rattle.locate.specs.Query.{locate_variant}
@@ -41,7 +42,6 @@ segment_low g h = ltb-false coordinate_limit g.genomic_end (or_false (not (ltb g
 
 -- the segments hold a base where the oriented segments hold the oriented base
 pub coding_oriented : (σ : Strand) (gs : List CdsSegment) (p : ℕ) → any bad_segment gs ≡ false → inside_any (orient_base σ p) (map (orient_segment σ) gs) ≡ is_coding gs p
-unfolding any
 coding_oriented σ [] p h = refl
 coding_oriented σ (g ∷ gs) p h =
     let n = any_none bad_segment g gs h in
@@ -49,7 +49,6 @@ coding_oriented σ (g ∷ gs) p h =
 
 -- coding bases stand below the limit, and the oriented segments end below the top
 pub coding_low : (gs : List CdsSegment) (p : ℕ) → any bad_segment gs ≡ false → is_coding gs p ≡ true → p < coordinate_limit
-unfolding any
 coding_low [] p h c = absurd (true_false (sym c))
 coding_low (g ∷ gs) p h c =
     let n = any_none bad_segment g gs h in
@@ -120,13 +119,13 @@ record Placed (r : Ranges) (t : Transcript) (s : ℕ) (place : VariantLocation) 
   admitted : Admitted t
   is : place ≡ locate r (oriented t) (orient_base t.model.strand s)
 
-placed : (r : Ranges) (t : Transcript) (chromosome s e : ℕ) (place : VariantLocation) → locate_variant r t chromosome s e ≡ Located.At place → Placed r t s place
+placed : (r : Ranges) (t : Transcript) (chromosome s e : ℕ) (place : VariantLocation) → locate_variant r t chromosome s e ≡ Ok place → Placed r t s place
 unfolding locate_variant question_refusal
 placed r t chromosome s e place h =
     on_test (eqb (place_refusal t chromosome s e) 0)
-    (λ z. (let k : Located.At (locate r (oriented t) (orient_base t.model.strand s)) ≡ Located.At place = rw z at h in
+    (λ z. (let k : Ok (locate r (oriented t) (orient_base t.model.strand s)) ≡ Ok place = rw z at h in
     record { admitted = (or_else_none (admission t) _ (eqb-true (place_refusal t chromosome s e) 0 z)).0; is = cc }))
-    (λ z. absurd (let k : Located.Refused (place_refusal t chromosome s e) ≡ Located.At place = rw z at h in let y : ◌≡◌ {A = ℕ} 0 1 = cc in omega arith))
+    (λ z. absurd (let k : Err (refusal (place_refusal t chromosome s e)) ≡ Ok place = rw z at h in let y : ◌≡◌ {A = ℕ} 0 1 = cc in omega arith))
 
 pub coding_places : CodingPlaces
 coding_places r t chromosome s e place h =

@@ -8,7 +8,6 @@ use native.Mathlib.Omega.{arith}
 use lib.ListN.{length, get_or}
 use lib.Dec.{ltb}
 use borrow.Author.Tests.{lt-ltb, ltb-true}
-use Rattle.common.specs.Lists.{any}
 use Rattle.common.proofs.TestParts.{on_test, true_false}
 use Rattle.transcript.specs.declared.CdsSegment.{CdsSegment}
 use Rattle.transcript.specs.Transcript.{Transcript}
@@ -29,7 +28,7 @@ use Rattle.locate.proofs.Offset.{first_index, segment_of_exon}
 -- the interval of a base that one of them holds
 pub index_holds : (xs : List Interval) (e p : ℕ) → Ascends e xs → inside_any p xs ≡ true
     → (interval_index xs p < length xs) × ((get_or xs (interval_index xs p) nowhere).start ≤ p) × (p < (get_or xs (interval_index xs p) nowhere).end)
-unfolding interval_index any
+unfolding interval_index
 index_holds [] e p a h = absurd (true_false (sym h))
 index_holds (x ∷ xs) e p a h =
     on_test (ltb p x.end)
@@ -47,7 +46,7 @@ index_first (g ∷ gs) e p a l = let s = a.1 in let f = l (omega arith) in rw (l
 
 -- the last interval holds a base past which none of them reaches
 index_last : (gs : List Interval) (e p : ℕ) → Ascends e gs → inside_any p gs ≡ true → ((k : ℕ) → k < length gs → (get_or gs k nowhere).end ≤ suc p) → suc (interval_index gs p) ≡ length gs
-unfolding interval_index any
+unfolding interval_index
 index_last [] e p a h b = absurd (true_false (sym h))
 index_last (g ∷ []) e p a h b = on_test (ltb p g.end) (λ k. rw k) (λ k. absurd (true_false (sym (rw (k, and-false) at h))))
 index_last (g ∷ x ∷ xs) e p a h b =

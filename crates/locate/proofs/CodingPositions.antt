@@ -7,7 +7,6 @@ use mathlib.Core.List.{List, [], ◌∷◌}
 use native.Mathlib.Omega.{arith}
 use lib.Dec.{ltb}
 use borrow.Author.Tests.{ltb-true, ltb-false, lt-ltb, le-ltb}
-use Rattle.common.specs.Lists.{any}
 use Rattle.common.proofs.TestParts.{on_test, true_false, or_right}
 use Rattle.transcript.specs.Limits.{coordinate_limit}
 use Rattle.transcript.specs.Transcript.{Transcript, pad_of}
@@ -33,7 +32,7 @@ before_past s e p l = omega arith
 
 -- a base in one of the intervals: fewer bases than there are come before it, and it is the base with that number
 pub base_numbered : (xs : List Interval) (e p : ℕ) → Ascends e xs → inside_any p xs ≡ true → (bases_in xs 0 p < total_size xs) × (coding_position xs (bases_in xs 0 p) ≡ p)
-unfolding any bases_in sum coding_position
+unfolding bases_in sum coding_position
 base_numbered [] e p a h = absurd (true_false (sym h))
 base_numbered (x ∷ xs) e p a h =
     on_test (inside p x)
@@ -54,7 +53,7 @@ base_numbered (x ∷ xs) e p a h =
 
 -- base k of the intervals: one of them holds it, and k bases come before it
 pub numbered_base : (xs : List Interval) (e k : ℕ) → Ascends e xs → k < total_size xs → (inside_any (coding_position xs k) xs ≡ true) × (bases_in xs 0 (coding_position xs k) ≡ k)
-unfolding any bases_in sum coding_position
+unfolding bases_in sum coding_position
 numbered_base [] e k a l = absurd (omega arith)
 numbered_base (x ∷ xs) e k a l =
     on_test (ltb k (size x))

@@ -5,7 +5,7 @@ use mathlib.Core.Path.{◌≡◌, sym, ◌∙◌}
 use mathlib.Core.Bool.{false, ◌&&◌, and-false}
 use mathlib.Core.List.{List, [], ◌∷◌}
 use native.Mathlib.Omega.{arith}
-use Rattle.common.specs.Lists.{any, count_below}
+use Rattle.common.specs.Lists.{count_below}
 use Rattle.common.proofs.Counting.{count_same, count_none, count_interval, count_cons}
 use Rattle.transcript.specs.Orient.{Interval, interval}
 use Rattle.transcript.specs.Bases.{inside, inside_any, bases_in, end_after}
@@ -25,7 +25,7 @@ count_meet x y n l =
 
 -- `bases_in xs a b` is the number of bases q of [a, b) that one of the intervals holds
 pub bases_in_counts : (e : ℕ) (xs : List Interval) (a b n : ℕ) → Ascends e xs → end_after e xs ≤ n → bases_in xs a b ≡ count_below (λ q. inside q (interval a b) && inside_any q xs) n
-unfolding bases_in any end_after
+unfolding bases_in end_after
 bases_in_counts e [] a b n h l = sym (count_none (λ q. inside q (interval a b) && false) n (λ q. and-false (inside q (interval a b))))
 bases_in_counts e (x ∷ xs) a b n h l =
     let r = bases_in_counts x.end xs a b n h.2 l in

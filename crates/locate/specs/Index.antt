@@ -1,15 +1,16 @@
 -- What is computed once for a transcript.
-use Rattle.std.specs.Prelude.{ℕ, ◌+◌, ◌-◌, ◌/◌, false, cond, List, [], ◌∷◌, map, length, replicate, eqb}
+use Rattle.std.specs.Prelude.{ℕ, ◌+◌, ◌-◌, ◌/◌, cond, List, [], ◌∷◌, map, length, Result}
+use Rattle.common.specs.declared.refusal.Refusal.{Refusal}
+use Rattle.common.specs.Refusal.{outcome}
 use Rattle.common.specs.Lists.{any}
 use Rattle.common.specs.Stored.{filled}
 use Rattle.transcript.specs.Transcript.{Transcript}
 use Rattle.transcript.specs.Orient.{Oriented, oriented}
 use Rattle.transcript.specs.Bases.{size, bases_in, gaps}
-use Rattle.transcript.specs.Admission.{admission, admission_of}
+use Rattle.transcript.specs.Admission.{admission}
 use Rattle.footprint.specs.ShortIntron.{is_frameshift_gap}
 use Rattle.locate.specs.declared.IndexScalars.{IndexScalars}
 use Rattle.locate.specs.declared.LocateIndex.{LocateIndex}
-use Rattle.locate.specs.declared.Indexed.{Indexed}
 use Rattle.locate.specs.Place.{interval_index, cds_offset, total_cds_length}
 
 -- the sum before each length and after the last, from `first` on
@@ -43,25 +44,6 @@ locate_index t = record {
   selenocysteine_codons = filled 64 (selenocysteine_codons t);
 }
 
--- the index of a transcript that is refused
-abbrev pub no_index : LocateIndex
-no_index = record {
-  scalars = record {
-    cds_start_pad = 0;
-    exon_count = 0;
-    segment_count = 0;
-    total_cds_length = 0;
-    utr5_exonic_len = 0;
-    cds_start_exon_idx = 0;
-    cds_end_exon_idx = 0;
-    has_frameshift_intron = false;
-    selenocysteine_count = 0;
-  };
-  cumulative_exons = replicate 513 0;
-  cumulative_cds = replicate 513 0;
-  selenocysteine_codons = replicate 64 0;
-}
-
--- the admission, and the index where the transcript is admitted
-unfoldable pub indexed : Transcript → Indexed
-indexed t = record { admission = admission_of t; index = cond (eqb (admission t) 0) (locate_index (oriented t)) no_index }
+-- the index of a transcript that is admitted
+unfoldable pub indexed : Transcript → Result LocateIndex Refusal
+indexed t = outcome (admission t) (locate_index (oriented t))

@@ -1,20 +1,13 @@
--- What each case of the answer to the question of a place stands for: its refusal number, 0 for an answer, and its values.
-use Rattle.std.specs.Prelude.{ℕ, Bool, true, false, List, [], ◌∷◌, replicate, ℤ, pos}
-use Rattle.locate.specs.declared.Located.{Located}
+-- The answer to the question of a place as numbers.
+use Rattle.std.specs.Prelude.{ℕ, List, [], ◌∷◌, replicate, ℤ, pos, Result, Ok, Err}
+use Rattle.common.specs.declared.refusal.Refusal.{Refusal}
+use Rattle.common.specs.Refusal.{number}
 use Rattle.locate.specs.declared.SpliceSide.{SpliceSide}
 use Rattle.locate.specs.declared.SpliceSide.TheVariants.{Donor, Acceptor}
 use Rattle.locate.specs.declared.VariantLocation.{VariantLocation}
 use Rattle.locate.specs.declared.VariantLocation.TheVariants.{Upstream, Downstream, Distal, FivePrimeUtr, CdsExon, ThreePrimeUtr, SpliceDonor, SpliceAcceptor, SpliceRegion, Intron, FrameshiftIntron, NonCodingExon, NonCodingIntron}
 use Rattle.locate.specs.PlaceKind.{place_kind}
 use Rattle.common.specs.Flag.{flag}
-
-abbrev pub located_number : Located → ℕ
-located_number (Located.At p) = 0
-located_number (Located.Refused n) = n
-
-abbrev pub is_located : Located → Bool
-is_located (Located.At p) = true
-is_located (Located.Refused n) = false
 
 abbrev pub side_number : SpliceSide → ℕ
 side_number Donor = 0
@@ -46,6 +39,6 @@ abbrev pub place_words : VariantLocation → List ℤ
 place_words place = pos (place_kind place) ∷ place_fields place
 
 -- the answer to the question of a place as 8 numbers; a refusal's number has zeros behind it
-abbrev pub located_words : Located → List ℤ
-located_words (Located.At place) = pos 0 ∷ place_words place
-located_words (Located.Refused n) = pos n ∷ replicate 7 (pos 0)
+abbrev pub located_words : Result VariantLocation Refusal → List ℤ
+located_words (Ok place) = pos 0 ∷ place_words place
+located_words (Err r) = pos (number r) ∷ replicate 7 (pos 0)

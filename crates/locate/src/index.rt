@@ -1,13 +1,12 @@
 // The index of a transcript.
 ghost use Rattle.std.specs.Prelude.{◌≡◌, cond, ◌+◌, ◌-◌, ◌≤◌, ltb};
 ghost use Rattle.transcript.specs.Limits.{max_exons};
-ghost use Rattle.transcript.specs.Transcript.{given, was_given};
+ghost use Rattle.transcript.specs.Transcript.{transcript_of};
 ghost use Rattle.transcript.specs.Orient.{oriented};
 ghost use Rattle.transcript.specs.Admission.{admission};
 ghost use Rattle.common.specs.Lists.{any};
-ghost use Rattle.transcript.specs.Bases.{gaps};
-ghost use Rattle.transcript.specs.code.Lent.{lent_exons};
 ghost use Rattle.footprint.specs.ShortIntron.{is_frameshift_gap};
+ghost use Rattle.footprint.specs.code.Lent.{gaps_in};
 ghost use Rattle.locate.specs.Index.{index_scalars, locate_index};
 ghost use Rattle.locate.specs.code.Sums.{ExonSums, CdsSums};
 
@@ -17,7 +16,7 @@ use super::prefix_sums::sum_up;
 use super::selenocysteine::selenocysteine_codons;
 use super::{IndexScalars, LocateIndex};
 use footprint::has_frameshift_intron;
-use transcript::TranscriptModel;
+use transcript::Transcript;
 use transcript::limits::{end_or_zero, start_or_zero};
 use transcript::oriented::start_of;
 
@@ -32,45 +31,36 @@ pub(crate) fn last_exon(first: u16, segments: usize) -> u16
     first + (segments - 1) as u16
 }
 
-// The scalars of the index of an admitted transcript, from its cumulative lengths and whether it has a short intron.
+// The scalars of the index of an admitted transcript, from its cumulative lengths and whether it has a short intron: apart from the
+// index, since a caller with sums of its own asks for them too.
 pub fn scalars_of(
-    model: TranscriptModel,
-    exon_starts: &[u64],
-    exon_ends: &[u64],
-    seg_phases: &[u8],
-    seg_exons: &[u16],
-    seg_starts: &[u64],
-    seg_ends: &[u64],
-    selenocysteine: &[u64],
+    transcript: &Transcript,
     cumulative_exons: &[u32],
     cumulative_cds: &[u32],
     short: bool,
 ) -> IndexScalars
-    requires fact_1 { let t = given model exon_starts exon_ends seg_phases seg_exons seg_starts seg_ends selenocysteine in
-        admission t ≡ 0 }
-    requires fact_2 { let t = given model exon_starts exon_ends seg_phases seg_exons seg_starts seg_ends selenocysteine in
+    requires admitted { admission (transcript_of transcript.now) ≡ 0 }
+    requires sums { let t = transcript_of transcript.now in
         ExonSums (oriented t) cumulative_exons.now × CdsSums (oriented t) cumulative_cds.now }
-    requires fact_3 { let t = given model exon_starts exon_ends seg_phases seg_exons seg_starts seg_ends selenocysteine in
-        short ≡ any is_frameshift_gap (gaps (lent_exons model.strand exon_starts.now exon_ends.now)) }
-    ensures { let t = was_given model exon_starts exon_ends seg_phases seg_exons seg_starts seg_ends selenocysteine in
+    requires short { short ≡ any is_frameshift_gap (gaps_in transcript.now.model.strand transcript.now.exons) }
+    ensures { let t = transcript_of transcript.now in
         result ≡ index_scalars (oriented t) }
 {
-    let strand = model.strand;
-    let cds = model.cds;
-    let count = seg_starts.len();
-    let first = first_index(seg_exons);
+    let strand = transcript.model.strand;
+    let cds = transcript.model.cds;
+    let count = transcript.segments.bases.starts.len();
+    let first = first_index(transcript.segments.exon_indexes);
     let s = start_or_zero(cds);
     let e = end_or_zero(cds);
     let from = start_of(strand, s, e);
     IndexScalars {
         cds_start_pad: cumulative_cds[0],
-        exon_count: exon_starts.len(),
+        exon_count: transcript.exons.starts.len(),
         segment_count: count,
         total_cds_length: cumulative_cds[count],
         utr5_exonic_len: utr5_length(
             0 < count,
-            exon_starts,
-            exon_ends,
+            transcript.exons,
             strand,
             cumulative_exons,
             first as usize,
@@ -79,60 +69,31 @@ pub fn scalars_of(
         cds_start_exon_idx: first,
         cds_end_exon_idx: last_exon(first, count),
         has_frameshift_intron: short,
-        selenocysteine_count: selenocysteine.len(),
+        selenocysteine_count: transcript.selenocysteine.len(),
     }
 }
 
 // The index of an admitted transcript.
-pub fn index_of(
-    model: TranscriptModel,
-    exon_starts: &[u64],
-    exon_ends: &[u64],
-    seg_phases: &[u8],
-    seg_exons: &[u16],
-    seg_starts: &[u64],
-    seg_ends: &[u64],
-    selenocysteine: &[u64],
-) -> LocateIndex
-    requires { let t = given model exon_starts exon_ends seg_phases seg_exons seg_starts seg_ends selenocysteine in
-        admission t ≡ 0 }
-    ensures { let t = was_given model exon_starts exon_ends seg_phases seg_exons seg_starts seg_ends selenocysteine in
+pub fn index_of(transcript: &Transcript) -> LocateIndex
+    requires admitted { admission (transcript_of transcript.now) ≡ 0 }
+    ensures { let t = transcript_of transcript.now in
         result ≡ locate_index (oriented t) }
 {
-    let strand = model.strand;
+    let strand = transcript.model.strand;
     let mut cumulative_exons = [0u32; 513];
     let mut cumulative_cds = [0u32; 513];
-    sum_up(
-        &mut cumulative_exons,
-        &mut cumulative_cds,
-        model,
-        exon_starts,
-        exon_ends,
-        seg_phases,
-        seg_exons,
-        seg_starts,
-        seg_ends,
-        selenocysteine,
-    );
+    sum_up(&mut cumulative_exons, &mut cumulative_cds, transcript);
     let scalars = scalars_of(
-        model,
-        exon_starts,
-        exon_ends,
-        seg_phases,
-        seg_exons,
-        seg_starts,
-        seg_ends,
-        selenocysteine,
+        transcript,
         &cumulative_exons,
         &cumulative_cds,
-        has_frameshift_intron(exon_starts, exon_ends, strand),
+        has_frameshift_intron(transcript.exons, strand),
     );
     let codons = selenocysteine_codons(
-        seg_starts,
-        seg_ends,
+        transcript.segments.bases,
         strand,
         &cumulative_cds,
-        selenocysteine,
+        transcript.selenocysteine,
     );
     let selenocysteine_codons = codons.numbers;
     LocateIndex {

@@ -20,7 +20,6 @@ pub use positions::cdna_position;
 pub use prefix_sums::{store_sums, sum_up};
 pub use search::started;
 pub use selenocysteine::selenocysteine_codons;
-use transcript::Admission;
 pub use variant::locate_variant;
 
 #[derive(Clone, Copy)]
@@ -89,7 +88,7 @@ pub enum VariantLocation {
 }
 
 // Which exon or intron of a transcript holds a base: its index, and its start and end in oriented coordinates. An intron has the
-// index of the exon before it.
+// index of the exon before it. An enum of its own: it has three cases, and each holds what the next step needs.
 #[derive(Clone, Copy)]
 pub enum ExonOrIntron {
     Exon(usize, u64, u64),
@@ -124,25 +123,11 @@ pub struct IndexScalars {
     pub selenocysteine_count: usize,
 }
 
-// What is computed once for a transcript.
+// What is computed once for a transcript, in arrays of fixed size: nothing allocates, and each is lent on as a slice.
 #[derive(Drop)]
 pub struct LocateIndex {
     pub scalars: IndexScalars,
     pub cumulative_exons: [u32; 513],
     pub cumulative_cds: [u32; 513],
     pub selenocysteine_codons: [u32; 64],
-}
-
-// Whether a transcript is admitted, and its index; where it is refused, an index of zeros.
-#[derive(Drop)]
-pub struct Indexed {
-    pub admission: Admission,
-    pub index: LocateIndex,
-}
-
-// The answers: what was asked for, or the number of the refusal.
-#[derive(Clone, Copy)]
-pub enum Located {
-    At(VariantLocation),
-    Refused(u8),
 }

@@ -1,7 +1,7 @@
 // The place of a base in an admitted transcript, from its index.
 ghost use Rattle.std.specs.Prelude.{◌≡◌, ◌+◌, ◌-◌, ◌≤◌, ◌<◌, length};
 ghost use Rattle.transcript.specs.Limits.{top};
-ghost use Rattle.transcript.specs.Transcript.{given, was_given};
+ghost use Rattle.transcript.specs.Transcript.{transcript_of};
 ghost use Rattle.transcript.specs.Orient.{interval, oriented};
 ghost use Rattle.transcript.specs.Admission.{admission};
 ghost use Rattle.locate.specs.Index.{index_scalars};
@@ -15,10 +15,11 @@ use super::positions::offset_at;
 use super::search::find_exon_or_intron;
 use super::{ExonOrIntron, IndexScalars, VariantLocation};
 use footprint::Ranges;
-use transcript::TranscriptModel;
+use transcript::Transcript;
 use transcript::limits::{end_or_zero, start_or_zero};
 use transcript::oriented::{end_of, start_of};
 
+// This and the next differ in the case they answer with, and nothing else: a function of both would take that case as a function.
 pub(crate) fn upstream_place(ranges: Ranges, d: u64) -> VariantLocation
     ensures { result ≡ upstream_by ranges d }
 {
@@ -41,14 +42,7 @@ pub(crate) fn downstream_place(ranges: Ranges, d: u64) -> VariantLocation
 
 // The place of the base p of exon i, [start, end).
 pub(crate) fn exon_base(
-    model: TranscriptModel,
-    exon_starts: &[u64],
-    exon_ends: &[u64],
-    seg_phases: &[u8],
-    seg_exons: &[u16],
-    seg_starts: &[u64],
-    seg_ends: &[u64],
-    selenocysteine: &[u64],
+    transcript: &Transcript,
     scalars: IndexScalars,
     cumulative_exons: &[u32],
     i: usize,
@@ -56,13 +50,11 @@ pub(crate) fn exon_base(
     end: u64,
     p: u64,
 ) -> VariantLocation
-    requires fact_1 { let t = given model exon_starts exon_ends seg_phases seg_exons seg_starts seg_ends selenocysteine in
-        admission t ≡ 0 }
-    requires fact_2 { let t = given model exon_starts exon_ends seg_phases seg_exons seg_starts seg_ends selenocysteine in
+    requires admitted { admission (transcript_of transcript.now) ≡ 0 }
+    requires indexed { let t = transcript_of transcript.now in
         (scalars ≡ index_scalars (oriented t)) × ExonSums (oriented t) cumulative_exons.now }
-    requires fact_3 { let t = given model exon_starts exon_ends seg_phases seg_exons seg_starts seg_ends selenocysteine in
-        Holds (oriented t) i start end p }
-    ensures { let t = was_given model exon_starts exon_ends seg_phases seg_exons seg_starts seg_ends selenocysteine in
+    requires holds { Holds (oriented (transcript_of transcript.now)) i start end p }
+    ensures { let t = transcript_of transcript.now in
         let mark = is_exonic_splice_region (length (oriented t).exons) i (interval start end) p in
         result ≡ exonic (oriented t) p i mark }
 {
@@ -71,15 +63,15 @@ pub(crate) fn exon_base(
     let before = offset_at(cumulative_exons, i, start, p);
     let coding_end = utr5 + (scalars.total_cds_length - pad);
     let first = scalars.cds_start_exon_idx;
-    let mark = is_exonic_splice_region(exon_starts.len(), i, start, end, p);
-    let strand = model.strand;
-    let cds = model.cds;
+    let mark = is_exonic_splice_region(transcript.exons.starts.len(), i, start, end, p);
+    let strand = transcript.model.strand;
+    let cds = transcript.model.cds;
     let s = start_or_zero(cds);
     let e = end_or_zero(cds);
     let a = start_of(strand, s, e);
     let b = end_of(strand, s, e);
     exonic_place(
-        0 < seg_starts.len(),
+        0 < transcript.segments.bases.starts.len(),
         before,
         utr5,
         coding_end,
@@ -96,30 +88,21 @@ pub(crate) fn exon_base(
 // The place of p, an oriented coordinate.
 pub fn place_of_base(
     ranges: Ranges,
-    model: TranscriptModel,
-    exon_starts: &[u64],
-    exon_ends: &[u64],
-    seg_phases: &[u8],
-    seg_exons: &[u16],
-    seg_starts: &[u64],
-    seg_ends: &[u64],
-    selenocysteine: &[u64],
+    transcript: &Transcript,
     scalars: IndexScalars,
     cumulative_exons: &[u32],
     p: u64,
 ) -> VariantLocation
-    requires fact_1 { let t = given model exon_starts exon_ends seg_phases seg_exons seg_starts seg_ends selenocysteine in
-        admission t ≡ 0 }
-    requires fact_2 { let t = given model exon_starts exon_ends seg_phases seg_exons seg_starts seg_ends selenocysteine in
+    requires admitted { admission (transcript_of transcript.now) ≡ 0 }
+    requires indexed { let t = transcript_of transcript.now in
         (scalars ≡ index_scalars (oriented t)) × ExonSums (oriented t) cumulative_exons.now }
-    requires fact_3 { let t = given model exon_starts exon_ends seg_phases seg_exons seg_starts seg_ends selenocysteine in
-        p ≤ top }
-    ensures { let t = was_given model exon_starts exon_ends seg_phases seg_exons seg_starts seg_ends selenocysteine in
+    requires low { p ≤ top }
+    ensures { let t = transcript_of transcript.now in
         result ≡ locate ranges (oriented t) p }
 {
-    let strand = model.strand;
-    let s = model.tx_start;
-    let e = model.tx_end;
+    let strand = transcript.model.strand;
+    let s = transcript.model.tx_start;
+    let e = transcript.model.tx_end;
     let first = start_of(strand, s, e);
     let last = end_of(strand, s, e);
     if p < first {
@@ -128,27 +111,12 @@ pub fn place_of_base(
     if last <= p {
         return downstream_place(ranges, p - last + 1);
     }
-    let found = find_exon_or_intron(exon_starts, exon_ends, strand, p);
+    let found = find_exon_or_intron(transcript.exons, strand, p);
     match found {
-        ExonOrIntron::Exon(i, a, b) => exon_base(
-            model,
-            exon_starts,
-            exon_ends,
-            seg_phases,
-            seg_exons,
-            seg_starts,
-            seg_ends,
-            selenocysteine,
-            scalars,
-            cumulative_exons,
-            i,
-            a,
-            b,
-            p,
-        ),
+        ExonOrIntron::Exon(i, a, b) => exon_base(transcript, scalars, cumulative_exons, i, a, b, p),
         ExonOrIntron::Intron(i, a, b) => classify_intronic(
             ranges,
-            0 < seg_starts.len(),
+            0 < transcript.segments.bases.starts.len(),
             i as u16,
             a,
             b,

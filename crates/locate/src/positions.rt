@@ -3,14 +3,14 @@ ghost use Rattle.std.specs.Prelude.{◌≡◌, true, cond, ◌+◌, ◌-◌, ◌
 ghost use Rattle.transcript.specs.Limits.{top};
 ghost use Rattle.transcript.specs.Orient.{interval};
 ghost use Rattle.transcript.specs.Bases.{inside, inside_any, bases_in};
-ghost use Rattle.transcript.specs.code.Lent.{lent_exons};
+ghost use Rattle.transcript.specs.code.Lent.{oriented_in};
 ghost use Rattle.locate.specs.code.Search.{Ready};
 ghost use Rattle.locate.specs.code.Sums.{first_sum, Sums};
 
 use super::search::find_exon_or_intron;
 use super::{CdnaPosition, CdsOffset, ExonOrIntron};
-use transcript::Strand;
 use transcript::oriented::start_of;
+use transcript::{Intervals, Strand};
 
 // The sum at i and the bases from `start` to p.
 pub(crate) fn offset_at(sums: &[u32], i: usize, start: u64, p: u64) -> u32
@@ -21,19 +21,13 @@ pub(crate) fn offset_at(sums: &[u32], i: usize, start: u64, p: u64) -> u32
 }
 
 // The padded offset of p, an oriented base of one of the intervals; `sums` are their cumulative lengths.
-pub(crate) fn cds_offset_of(
-    starts: &[u64],
-    ends: &[u64],
-    strand: Strand,
-    sums: &[u32],
-    p: u64,
-) -> CdsOffset
-    requires ready { Ready strand starts.now ends.now }
-    requires sums { Sums (lent_exons strand starts.now ends.now) sums.now }
-    requires ends_value { inside_any p (lent_exons strand starts.now ends.now) ≡ true }
-    ensures { result.0 ≡ first_sum sums.now + bases_in (lent_exons strand starts.now ends.now) 0 p }
+pub(crate) fn cds_offset_of(intervals: Intervals, strand: Strand, sums: &[u32], p: u64) -> CdsOffset
+    requires ready { Ready strand intervals.starts.now intervals.ends.now }
+    requires sums { Sums (oriented_in strand intervals) sums.now }
+    requires ends_value { inside_any p (oriented_in strand intervals) ≡ true }
+    ensures { result.0 ≡ first_sum sums.now + bases_in (oriented_in strand intervals.entry) 0 p }
 {
-    let found = find_exon_or_intron(starts, ends, strand, p);
+    let found = find_exon_or_intron(intervals, strand, p);
     match found {
         ExonOrIntron::Exon(i, start, end) => CdsOffset(offset_at(sums, i, start, p)),
         ExonOrIntron::Intron(i, start, end) => CdsOffset(0),
@@ -44,24 +38,23 @@ pub(crate) fn cds_offset_of(
 // The exonic bases before the CDS, whose first base `from` lies in exon `first`; 0 where there is no CDS.
 pub(crate) fn utr5_length(
     coding: bool,
-    starts: &[u64],
-    ends: &[u64],
+    intervals: Intervals,
     strand: Strand,
     sums: &[u32],
     first: usize,
     from: u64,
 ) -> u32
-    requires ready { Ready strand starts.now ends.now }
-    requires sums { Sums (lent_exons strand starts.now ends.now) sums.now }
-    requires fact { let x = get_or (lent_exons strand starts.now ends.now) first (interval 0 0) in
-        (coding ≡ true → (first < length starts.now) × (inside from x ≡ true)) }
-    ensures { result ≡ cond coding (first_sum sums.now + bases_in (lent_exons strand starts.now ends.now) 0 from) 0 }
+    requires ready { Ready strand intervals.starts.now intervals.ends.now }
+    requires sums { Sums (oriented_in strand intervals) sums.now }
+    requires first_held { let x = get_or (oriented_in strand intervals) first (interval 0 0) in
+        (coding ≡ true → (first < length intervals.starts.now) × (inside from x ≡ true)) }
+    ensures { result ≡ cond coding (first_sum sums.now + bases_in (oriented_in strand intervals.entry) 0 from) 0 }
 {
     if !coding {
         return 0;
     }
-    let s = starts[first];
-    let e = ends[first];
+    let s = intervals.starts[first];
+    let e = intervals.ends[first];
     offset_at(sums, first, start_of(strand, s, e), from)
 }
 

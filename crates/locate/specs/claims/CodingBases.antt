@@ -8,7 +8,7 @@ use Rattle.transcript.specs.Limits.{coordinate_limit}
 use Rattle.transcript.specs.Transcript.{Transcript, pad_of}
 use Rattle.footprint.specs.declared.Ranges.{Ranges}
 use Rattle.locate.specs.declared.VariantLocation.{VariantLocation}
-use Rattle.locate.specs.declared.Located.{Located}
+use Rattle.std.specs.Prelude.{Ok}
 use Rattle.locate.specs.PlaceKind.{is_cds_exon, place_offset}
 use Rattle.locate.specs.Query.{locate_variant}
 
@@ -29,14 +29,14 @@ coding_before t p n = count_below (λ q. is_before t.model.strand p q && is_codi
 abbrev pub CodingPlaces : Type 0
 CodingPlaces =
     (r : Ranges) (t : Transcript) (chromosome s e : ℕ) (place : VariantLocation) →
-    locate_variant r t chromosome s e ≡ Located.At place →
+    locate_variant r t chromosome s e ≡ Ok place →
     is_cds_exon place ≡ is_coding t.segments s
 
 -- its padded offset is the pad and the number of coding bases before the base in strand order; all of them are below the limit
 abbrev pub OffsetsCount : Type 0
 OffsetsCount =
     (r : Ranges) (t : Transcript) (chromosome s e n : ℕ) (place : VariantLocation) →
-    locate_variant r t chromosome s e ≡ Located.At place →
+    locate_variant r t chromosome s e ≡ Ok place →
     is_cds_exon place ≡ true →
     coordinate_limit ≤ n →
     place_offset place ≡ pad_of t.segments + coding_before t s n

@@ -7,7 +7,7 @@ use Rattle.transcript.specs.Bases.{total_size}
 use Rattle.transcript.specs.Admission.{Admitted}
 use Rattle.footprint.specs.declared.Ranges.{Ranges}
 use Rattle.locate.specs.declared.VariantLocation.{VariantLocation}
-use Rattle.locate.specs.declared.Located.{Located}
+use Rattle.std.specs.Prelude.{Ok}
 use Rattle.locate.specs.Place.{coding_position}
 use Rattle.locate.specs.PlaceKind.{is_cds_exon, place_offset}
 use Rattle.locate.specs.Query.{locate_variant}
@@ -30,7 +30,7 @@ abbrev pub CodingBasePlaced : Type 0
 CodingBasePlaced =
     (r : Ranges) (t : Transcript) (chromosome k e : ℕ) (place : VariantLocation) → Admitted t →
     k < total_size (oriented t).segments →
-    locate_variant r t chromosome (coding_coordinate t k) e ≡ Located.At place →
+    locate_variant r t chromosome (coding_coordinate t k) e ≡ Ok place →
     (is_cds_exon place ≡ true) × (place_offset place ≡ pad_of t.segments + k)
 
 -- the reverse: a base of a segment with k coding bases before it is coding base k

@@ -7,25 +7,25 @@ use Rattle.locate.proofs.lengths.bases_before.Goals as goal
 pub length_before-requires : goal.length_before-requires
 length_before-requires c =
     let r = c.requires.ready in
-    let l = c.requires.k_in_bounds.0 in
-    record { starts_len = (r.even, r.few, omega arith); ends_value = r.edges; ends_bound = lengths_low c.args.strand c.args.starts.now c.args.ends.now r }
+    let l = c.requires.held.0 in
+    record { even = (r.even, r.few, omega arith); good_edges = r.edges; low = lengths_low c.args.strand c.args.intervals.starts.now c.args.intervals.ends.now r }
 
 pub overflow_sub-result : goal.overflow_sub-result
 overflow_sub-result c =
-    start_before c.args.strand c.args.starts.now c.args.ends.now c.requires.ready c.args.k c.args.p c.start_of.result c.requires.k_in_bounds.0 c.requires.k_in_bounds.1 c.start_of.ensures
+    start_before c.args.strand c.args.intervals.starts.now c.args.intervals.ends.now c.requires.ready c.args.k c.args.p c.start_of-start.result c.requires.held.0 c.requires.held.1 c.start_of-start.ensures
 
 pub overflow_cast-result : goal.overflow_cast-result
 overflow_cast-result c =
-    let l = base_low c.args.strand c.args.starts.now c.args.ends.now c.requires.ready c.args.k c.args.p c.start_of.result c.requires.k_in_bounds.0 c.requires.k_in_bounds.1 c.start_of.ensures in
+    let l = base_low c.args.strand c.args.intervals.starts.now c.args.intervals.ends.now c.requires.ready c.args.k c.args.p c.start_of-start.result c.requires.held.0 c.requires.held.1 c.start_of-start.ensures in
     omega arith
 
 pub overflow_add-result : goal.overflow_add-result
 overflow_add-result c =
-    let l = bases_low c.args.strand c.args.starts.now c.args.ends.now c.requires.ready c.args.k c.args.p c.start_of.result c.requires.k_in_bounds.0 c.requires.k_in_bounds.1 c.start_of.ensures in
+    let l = bases_low c.args.strand c.args.intervals.starts.now c.args.intervals.ends.now c.requires.ready c.args.k c.args.p c.start_of-start.result c.requires.held.0 c.requires.held.1 c.start_of-start.ensures in
     let e = c.length_before.ensures in
     omega arith
 
 pub returns : goal.returns
 returns c =
-    ap (λ (n : ℕ). n + (c.args.p - c.start_of.result)) c.length_before.ensures
-    ∙ bases_are c.args.strand c.args.starts.now c.args.ends.now c.requires.ready c.args.k c.args.p c.start_of.result c.requires.k_in_bounds.0 c.requires.k_in_bounds.1 c.start_of.ensures
+    ap (λ (n : ℕ). n + (c.args.p - c.start_of-start.result)) c.length_before.ensures
+    ∙ bases_are c.args.strand c.args.intervals.starts.now c.args.intervals.ends.now c.requires.ready c.args.k c.args.p c.start_of-start.result c.requires.held.0 c.requires.held.1 c.start_of-start.ensures

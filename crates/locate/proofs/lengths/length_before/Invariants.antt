@@ -1,6 +1,6 @@
 use mathlib.Core.Path.{◌≡◌}
 use mathlib.Core.List.{List, map}
-use Prim.Native.Nat.{ℕ, ◌-◌, ◌≤◌}
+use Prim.Native.Nat.{ℕ}
 use lib.ListN.{get_or}
 use Rattle.transcript.specs.Transcript.{exons_of}
 use Rattle.locate.specs.Index.{cumulative}
@@ -11,7 +11,4 @@ abbrev pub sums : List ℕ → List ℕ → List ℕ
 sums starts ends = cumulative 0 (map exon_size (exons_of starts ends))
 
 abbrev pub invariant-loop-i : goal.invariant-loop-i
-invariant-loop-i l = (l.i ≤ l.n) × (l.acc ≡ get_or (sums l.starts l.ends) l.i 0)
-
-abbrev pub decreases-loop-i : goal.decreases-loop-i
-decreases-loop-i l = l.n - l.i
+invariant-loop-i l = l.acc ≡ get_or (sums l.intervals.starts.now l.intervals.ends.now) l.i 0

@@ -17,33 +17,33 @@ use Rattle.locate.proofs.positions.cds_offset_of.Goals as goal
 use Rattle.locate.proofs.positions.cds_offset_of.Goals.{In-Exon, Start}
 
 -- the base lies past the first start
-past_first : (b : Start) → first_start (lent_exons b.args.strand b.args.starts.now b.args.ends.now) ≤ b.args.p
-past_first b = inside_first (lent_exons b.args.strand b.args.starts.now b.args.ends.now) 0 b.args.p (ascends b.args.strand b.args.starts.now b.args.ends.now b.requires.ready) b.requires.ends_value
+past_first : (b : Start) → first_start (lent_exons b.args.strand b.args.intervals.starts.now b.args.intervals.ends.now) ≤ b.args.p
+past_first b = inside_first (lent_exons b.args.strand b.args.intervals.starts.now b.args.intervals.ends.now) 0 b.args.p (ascends b.args.strand b.args.intervals.starts.now b.args.intervals.ends.now b.requires.ready) b.requires.ends_value
 
 -- an interval holds it, so nothing else was found
-not_between : (b : Start) (w : Found) → find_exon_or_intron (lent_exons b.args.strand b.args.starts.now b.args.ends.now) b.args.p ≡ w → is_exon w ≡ true
+not_between : (b : Start) (w : Found) → find_exon_or_intron (lent_exons b.args.strand b.args.intervals.starts.now b.args.intervals.ends.now) b.args.p ≡ w → is_exon w ≡ true
 not_between b w e =
-    ap is_exon (sym e) ∙ found_exon (lent_exons b.args.strand b.args.starts.now b.args.ends.now) b.args.p (ascends b.args.strand b.args.starts.now b.args.ends.now b.requires.ready) (past_first b) ∙ b.requires.ends_value
+    ap is_exon (sym e) ∙ found_exon (lent_exons b.args.strand b.args.intervals.starts.now b.args.intervals.ends.now) b.args.p (ascends b.args.strand b.args.intervals.starts.now b.args.intervals.ends.now b.requires.ready) (past_first b) ∙ b.requires.ends_value
 
 pub find_exon_or_intron-found-requires : goal.find_exon_or_intron-found-requires
 find_exon_or_intron-found-requires c = record { ready = c.requires.ready; ends_bound = past_first (goal.at.find_exon_or_intron-found-requires c).Start }
 
 -- what is known of the interval that was found
-at : (c : In-Exon) → FoundAt (lent_exons c.args.strand c.args.starts.now c.args.ends.now) c.args.p (ExonOrIntron.Exon c.in-Exon.i c.in-Exon.start c.in-Exon.end)
+at : (c : In-Exon) → FoundAt (lent_exons c.args.strand c.args.intervals.starts.now c.args.intervals.ends.now) c.args.p (ExonOrIntron.Exon c.in-Exon.i c.in-Exon.start c.in-Exon.end)
 at c =
-    subst (λ (r : ExonOrIntron). FoundAt (lent_exons c.args.strand c.args.starts.now c.args.ends.now) c.args.p r) c.in-Exon.is c.find_exon_or_intron-found.ensures.1
+    subst (λ (r : ExonOrIntron). FoundAt (lent_exons c.args.strand c.args.intervals.starts.now c.args.intervals.ends.now) c.args.p r) c.in-Exon.is c.find_exon_or_intron-found.ensures.1
 
 pub offset_at-requires : goal.offset_at-requires
 offset_at-requires c =
     let k = at (goal.at.offset_at-requires c).In-Exon in
     let i = k.0 in let q = k.2 in let s = k.3 in let t = k.4 in
     let f = c.requires.sums.reach in
-    let n = count c.args.strand c.args.starts.now c.args.ends.now c.requires.ready in
-    let e = end_at_lem c.args.strand c.args.starts.now c.args.ends.now c.requires.ready c.in-Exon.i (omega arith) in
-    let u = end_top c.args.strand c.args.starts.now c.args.ends.now c.requires.ready c.in-Exon.i (omega arith) in (
+    let n = count c.args.strand c.args.intervals.starts.now c.args.intervals.ends.now c.requires.ready in
+    let e = end_at_lem c.args.strand c.args.intervals.starts.now c.args.intervals.ends.now c.requires.ready c.in-Exon.i (omega arith) in
+    let u = end_top c.args.strand c.args.intervals.starts.now c.args.intervals.ends.now c.requires.ready c.in-Exon.i (omega arith) in (
       omega arith,
-      sum_low (lent_exons c.args.strand c.args.starts.now c.args.ends.now) c.args.sums.now (ascends c.args.strand c.args.starts.now c.args.ends.now c.requires.ready) c.requires.sums
-          (high c.args.strand c.args.starts.now c.args.ends.now c.requires.ready) c.in-Exon.i (omega arith),
+      sum_low (lent_exons c.args.strand c.args.intervals.starts.now c.args.intervals.ends.now) c.args.sums.now (ascends c.args.strand c.args.intervals.starts.now c.args.intervals.ends.now c.requires.ready) c.requires.sums
+          (high c.args.strand c.args.intervals.starts.now c.args.intervals.ends.now c.requires.ready) c.in-Exon.i (omega arith),
       s,
       omega arith,
     )
@@ -53,7 +53,7 @@ returns-in-Exon c =
     let k = at (goal.at.returns-in-Exon c).In-Exon in
     let s = k.3 in let t = k.4 in let f = k.1 in let e = k.2 in
     c.offset_at.ensures ∙ rw f
-    (read_sum (lent_exons c.args.strand c.args.starts.now c.args.ends.now) c.args.sums.now (ascends c.args.strand c.args.starts.now c.args.ends.now c.requires.ready) c.requires.sums c.in-Exon.i c.args.p k.0 (omega arith) (omega arith))
+    (read_sum (lent_exons c.args.strand c.args.intervals.starts.now c.args.intervals.ends.now) c.args.sums.now (ascends c.args.strand c.args.intervals.starts.now c.args.intervals.ends.now c.requires.ready) c.requires.sums c.in-Exon.i c.args.p k.0 (omega arith) (omega arith))
 
 pub returns-in-Intron : goal.returns-in-Intron
 returns-in-Intron c =

@@ -6,22 +6,16 @@ use lib.ListN.{length, replicate, length-replicate}
 use lib.Seq.{length-sets}
 use Rattle.common.specs.Stored.{stored, filled}
 use Rattle.common.proofs.Stored.{stored_zeros}
-use Rattle.transcript.specs.declared.TranscriptModel.{TranscriptModel}
 use Rattle.transcript.specs.Transcript.{exons_of}
 use Rattle.transcript.specs.code.Lent.{exon_size}
 use Rattle.transcript.proofs.LentFacts.{pad_low}
 use Rattle.locate.specs.Index.{cumulative}
+use Rattle.transcript.proofs.OnParts.{on}
 use Rattle.locate.proofs.LentTranscript.{ad}
 use Rattle.locate.proofs.PrefixSums.{sums_count}
 use Rattle.locate.proofs.LentIndex.{sizes_bound, exon_array, cds_array}
 use Rattle.locate.proofs.prefix_sums.sum_up.Goals as goal
 use Rattle.locate.proofs.prefix_sums.sum_up.Goals.{Start}
-
--- a law about the transcript's parts, at them
-abbrev on : (b : Start) → {P : TranscriptModel → List ℕ → List ℕ → List ℕ → List ℕ → List ℕ → List ℕ → List ℕ → Type 0}
-    → ((m : TranscriptModel) (ss es ps is gs ge bs : List ℕ) → P m ss es ps is gs ge bs)
-    → P b.args.model b.args.exon_starts.now b.args.exon_ends.now b.args.seg_phases.now b.args.seg_exons.now b.args.seg_starts.now b.args.seg_ends.now b.args.selenocysteine.now
-on b f = f b.args.model b.args.exon_starts.now b.args.exon_ends.now b.args.seg_phases.now b.args.seg_exons.now b.args.seg_starts.now b.args.seg_ends.now b.args.selenocysteine.now
 
 -- values stored into an array of zeros
 length_is : (sums : List ℕ) → sums ≡ replicate 513 0 → length sums ≡ 513
@@ -35,38 +29,38 @@ kept_length sums after vs z e = ap length e ∙ length-sets sums 0 vs ∙ length
 
 pub store_sums-requires : goal.store_sums-requires
 store_sums-requires c =
-    let k = on (goal.at.store_sums-requires c).Start ad c.requires.fact_2 in
+    let k = on c.args.transcript.now ad c.requires.admitted in
     let f = k.few in
-    let z = length_is c.args.cumulative_exons.now c.requires.fact_1.0 in
-    let s = sizes_bound c.args.model.strand (exons_of c.args.exon_starts.now c.args.exon_ends.now) k.edges k.order in
-    record { starts_len = (k.even, omega arith); ends_value = k.edges; ends_bound = omega arith }
+    let z = length_is c.args.cumulative_exons.now c.requires.zeros.0 in
+    let s = sizes_bound c.args.transcript.now.model.strand (exons_of c.args.transcript.now.exons.starts.now c.args.transcript.now.exons.ends.now) k.edges k.order in
+    record { even = (k.even, omega arith); good_edges = k.edges; low = omega arith }
 
 pub store_sums-requires-2 : goal.store_sums-requires-2
 store_sums-requires-2 c =
-    let k = on (goal.at.store_sums-requires-2 c).Start ad c.requires.fact_2 in
+    let k = on c.args.transcript.now ad c.requires.admitted in
     let f = k.few_segments in
-    let z = length_is c.args.cumulative_cds.now c.requires.fact_1.1 in
-    let s = sizes_bound c.args.model.strand (exons_of c.args.seg_starts.now c.args.seg_ends.now) k.segment_edges k.segment_order in
-    let p = pad_low c.args.seg_phases.now in
+    let z = length_is c.args.cumulative_cds.now c.requires.zeros.1 in
+    let s = sizes_bound c.args.transcript.now.model.strand (exons_of c.args.transcript.now.segments.bases.starts.now c.args.transcript.now.segments.bases.ends.now) k.segment_edges k.segment_order in
+    let p = pad_low c.args.transcript.now.segments.phases.now in
     let e = c.pad_of-pad.ensures in
-    record { starts_len = (k.even_segments_lem.ends, omega arith); ends_value = k.segment_edges; ends_bound = omega arith }
+    record { even = (k.even_segments_lem.ends, omega arith); good_edges = k.segment_edges; low = omega arith }
 
 pub returns : goal.returns
 returns c =
-    let k = on (goal.at.returns c).Start ad c.requires.fact_2 in
+    let k = on c.args.transcript.now ad c.requires.admitted in
     let pad = c.pad_of-pad in
-    let xs = cumulative 0 (map exon_size (exons_of c.args.exon_starts.now c.args.exon_ends.now)) in
-    let ys = cumulative pad.result (map exon_size (exons_of c.args.seg_starts.now c.args.seg_ends.now)) in
+    let xs = cumulative 0 (map exon_size (exons_of c.args.transcript.now.exons.starts.now c.args.transcript.now.exons.ends.now)) in
+    let ys = cumulative pad.result (map exon_size (exons_of c.args.transcript.now.segments.bases.starts.now c.args.transcript.now.segments.bases.ends.now)) in
     let s = c.store_sums in
     let t = c.store_sums-2 in
-    let n = sums_count 0 c.args.exon_starts.now c.args.exon_ends.now k.even in
-    let m = sums_count pad.result c.args.seg_starts.now c.args.seg_ends.now k.even_segments_lem.ends in record {
-      fact = (
-        filled_is c.args.cumulative_exons.now s.new.sums xs (length c.args.exon_starts.now) c.requires.fact_1.0 s.ensures n k.few ∙ on (goal.at.returns c).Start exon_array c.requires.fact_2,
-        filled_is c.args.cumulative_cds.now t.new.sums ys (length c.args.seg_starts.now) c.requires.fact_1.1 t.ensures m k.few_segments ∙ on (goal.at.returns c).Start cds_array c.requires.fact_2 pad.result pad.ensures,
+    let n = sums_count 0 c.args.transcript.now.exons.starts.now c.args.transcript.now.exons.ends.now k.even in
+    let m = sums_count pad.result c.args.transcript.now.segments.bases.starts.now c.args.transcript.now.segments.bases.ends.now k.even_segments_lem.ends in record {
+      sums = (
+        filled_is c.args.cumulative_exons.now s.new.sums xs (length c.args.transcript.now.exons.starts.now) c.requires.zeros.0 s.ensures n k.few ∙ on c.args.transcript.now exon_array c.requires.admitted,
+        filled_is c.args.cumulative_cds.now t.new.sums ys (length c.args.transcript.now.segments.bases.starts.now) c.requires.zeros.1 t.ensures m k.few_segments ∙ on c.args.transcript.now cds_array c.requires.admitted pad.result pad.ensures,
       );
-      cumulative_exons_len = (
-        kept_length c.args.cumulative_exons.now s.new.sums xs c.requires.fact_1.0 s.ensures,
-        kept_length c.args.cumulative_cds.now t.new.sums ys c.requires.fact_1.1 t.ensures,
+      lengths = (
+        kept_length c.args.cumulative_exons.now s.new.sums xs c.requires.zeros.0 s.ensures,
+        kept_length c.args.cumulative_cds.now t.new.sums ys c.requires.zeros.1 t.ensures,
       );
     }

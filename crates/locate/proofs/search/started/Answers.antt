@@ -8,16 +8,16 @@ use Rattle.locate.proofs.search.started.Goals.{then-start_of-p, else-start_of-p}
 pub loop-left-init : goal.loop-left-init
 loop-left-init c =
     let a = c.requires in
-    let n = count c.args.strand c.args.starts.now c.args.ends.now a in
+    let n = count c.args.strand c.args.intervals.starts.now c.args.intervals.ends.now a in
     (omega arith, record { lo_le = omega arith; hi_le = omega arith; before = λ k q. absurd (omega arith); after = λ k q r. absurd (omega arith) })
 
 pub loop-left-preserved : goal.loop-left-preserved
 loop-left-preserved c =
     let l = c.loop-left in
-    let xs = lent_exons c.args.strand c.args.starts.now c.args.ends.now in
+    let xs = lent_exons c.args.strand c.args.intervals.starts.now c.args.intervals.ends.now in
     let mid = l.lo + (l.left - l.left / 2) - 1 in
-    let o = ascends c.args.strand c.args.starts.now c.args.ends.now c.requires in
-    let e = start_at_lem c.args.strand c.args.starts.now c.args.ends.now c.requires mid (omega arith) in
+    let o = ascends c.args.strand c.args.intervals.starts.now c.args.intervals.ends.now c.requires in
+    let e = start_at_lem c.args.strand c.args.intervals.starts.now c.args.intervals.ends.now c.requires mid (omega arith) in
     let f = c.start_of.ensures in
     elim c.if-start_of-p.branch [
       | then-start_of-p w ↦ rw w.lo-is (omega arith, second_half xs c.args.p l.lo l.left o l.invariant.1 (omega arith) (let t = w.if-start_of-p.true in omega arith))

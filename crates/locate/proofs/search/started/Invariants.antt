@@ -5,7 +5,7 @@ use Rattle.locate.proofs.Searching.{Bracket}
 use Rattle.locate.proofs.search.started.Given as goal
 
 abbrev pub invariant-loop-left : goal.invariant-loop-left
-invariant-loop-left l = (l.lo + l.left ≤ length l.starts) × Bracket (lent_exons l.strand l.starts l.ends) l.p l.lo (l.lo + l.left)
+invariant-loop-left l = (l.lo + l.left ≤ length l.intervals.starts.now) × Bracket (lent_exons l.strand l.intervals.starts.now l.intervals.ends.now) l.p l.lo (l.lo + l.left)
 
 abbrev pub decreases-loop-left : goal.decreases-loop-left
 decreases-loop-left l = l.left

@@ -1,7 +1,6 @@
-use Prim.Native.Nat.{ℕ, ◌+◌, ◌-◌, ◌/◌, ◌≤◌}
+use Prim.Native.Nat.{ℕ, ◌+◌, ◌/◌}
 use mathlib.Core.Path.{◌≡◌}
 use mathlib.Core.List.{List, map}
-use lib.ListN.{length}
 use Rattle.transcript.specs.declared.Strand.{Strand}
 use Rattle.transcript.specs.Orient.{orient_base}
 use Rattle.transcript.specs.Bases.{bases_in}
@@ -18,7 +17,4 @@ abbrev pub numbers_of : Strand → List ℕ → List ℕ → List ℕ → List �
 numbers_of strand starts ends sums bases = map (number strand starts ends sums) (map (orient_base strand) bases)
 
 abbrev pub invariant-loop-i : goal.invariant-loop-i
-invariant-loop-i l = (l.i ≤ length l.bases) × (l.numbers ≡ front (numbers_of l.strand l.starts l.ends l.sums l.bases) 64 l.i)
-
-abbrev pub decreases-loop-i : goal.decreases-loop-i
-decreases-loop-i l = length l.bases - l.i
+invariant-loop-i l = l.numbers ≡ front (numbers_of l.strand l.intervals.starts.now l.intervals.ends.now l.sums l.bases) 64 l.i

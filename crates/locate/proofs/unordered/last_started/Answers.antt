@@ -8,30 +8,30 @@ use Rattle.locate.proofs.Searching.{later_half, earlier_half, ascends, count, st
 use Rattle.locate.proofs.unordered.last_started.Goals as goal
 use Rattle.locate.proofs.unordered.last_started.Goals.{then-at-p, else-at-p}
 
-pub bounds-starts-index : goal.bounds-starts-index
-bounds-starts-index c = c.requires.ready.some
+pub bounds-intervals-index : goal.bounds-intervals-index
+bounds-intervals-index c = c.requires.ready.some
 
-pub bounds-ends-index : goal.bounds-ends-index
-bounds-ends-index c = let r = c.requires.ready in let s = r.some in let e = r.even in omega arith
+pub bounds-intervals-index-2 : goal.bounds-intervals-index-2
+bounds-intervals-index-2 c = let r = c.requires.ready in let s = r.some in let e = r.even in omega arith
 
 pub loop-left-init : goal.loop-left-init
 loop-left-init c =
-    let xs = lent_exons c.args.strand c.args.starts.now c.args.ends.now in
-    let n = count c.args.strand c.args.starts.now c.args.ends.now c.requires.ready in
+    let xs = lent_exons c.args.strand c.args.intervals.starts.now c.args.intervals.ends.now in
+    let n = count c.args.strand c.args.intervals.starts.now c.args.intervals.ends.now c.requires.ready in
     let r = c.requires.ready.some in
     let f = first_at xs (omega arith) in
     let g = c.requires.ends_bound in
-    (r, omega arith, record { lo_le = omega arith; hi_le = omega arith; before = λ k q. (let z : k ≡ 0 = omega arith in rw z (omega arith)); after = λ k q t. absurd (omega arith) }, c.start_of-start.ensures ∙ sym (start_at_lem c.args.strand c.args.starts.now c.args.ends.now c.requires.ready 0 r))
+    (r, omega arith, record { lo_le = omega arith; hi_le = omega arith; before = λ k q. (let z : k ≡ 0 = omega arith in rw z (omega arith)); after = λ k q t. absurd (omega arith) }, c.start_of-start.ensures ∙ sym (start_at_lem c.args.strand c.args.intervals.starts.now c.args.intervals.ends.now c.requires.ready 0 r))
 
-pub bounds-ends-mid : goal.bounds-ends-mid
-bounds-ends-mid c = let e = c.requires.ready.even in omega arith
+pub bounds-intervals-mid-in-loop-left : goal.bounds-intervals-mid-in-loop-left
+bounds-intervals-mid-in-loop-left c = let e = c.requires.ready.even in omega arith
 
 pub loop-left-preserved : goal.loop-left-preserved
 loop-left-preserved c =
     let l = c.loop-left in
-    let xs = lent_exons c.args.strand c.args.starts.now c.args.ends.now in
-    let o = ascends c.args.strand c.args.starts.now c.args.ends.now c.requires.ready in
-    let e = start_at_lem c.args.strand c.args.starts.now c.args.ends.now c.requires.ready (l.index + l.left / 2) (omega arith) in
+    let xs = lent_exons c.args.strand c.args.intervals.starts.now c.args.intervals.ends.now in
+    let o = ascends c.args.strand c.args.intervals.starts.now c.args.intervals.ends.now c.requires.ready in
+    let e = start_at_lem c.args.strand c.args.intervals.starts.now c.args.intervals.ends.now c.requires.ready (l.index + l.left / 2) (omega arith) in
     let f = c.start_of-at.ensures in
     elim c.if-at-p.branch [
       | then-at-p w ↦ rw (w.index-is, w.start-is) (omega arith, omega arith, later_half xs c.args.p l.index l.left o l.invariant.2 (omega arith) (let t = w.if-at-p.true in omega arith), f ∙ sym e)
@@ -41,6 +41,6 @@ loop-left-preserved c =
 pub returns : goal.returns
 returns c =
     let l = c.loop-left in
-    let n = count c.args.strand c.args.starts.now c.args.ends.now c.requires.ready in
+    let n = count c.args.strand c.args.intervals.starts.now c.args.intervals.ends.now c.requires.ready in
     let i = l.invariant.2 in
     record { index = omega arith; started = record { before = λ k q. i.before k (omega arith); after = λ k q r. i.after k (omega arith) r }; start_is = l.invariant.3 }

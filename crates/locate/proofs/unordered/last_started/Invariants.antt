@@ -7,7 +7,7 @@ use Rattle.locate.proofs.Searching.{Bracket}
 use Rattle.locate.proofs.unordered.last_started.Given as goal
 
 abbrev pub invariant-loop-left : goal.invariant-loop-left
-invariant-loop-left l = (0 < l.left) × (l.index + l.left ≤ length l.starts) × Bracket (lent_exons l.strand l.starts l.ends) l.p (l.index + 1) (l.index + l.left) × (l.start ≡ (get_or (lent_exons l.strand l.starts l.ends) l.index nowhere).start)
+invariant-loop-left l = (0 < l.left) × (l.index + l.left ≤ length l.intervals.starts.now) × Bracket (lent_exons l.strand l.intervals.starts.now l.intervals.ends.now) l.p (l.index + 1) (l.index + l.left) × (l.start ≡ (get_or (lent_exons l.strand l.intervals.starts.now l.intervals.ends.now) l.index nowhere).start)
 
 abbrev pub decreases-loop-left : goal.decreases-loop-left
 decreases-loop-left l = l.left
