@@ -1,5 +1,8 @@
 -- The location of an answered call is the place of the called base; a segment holds it where that is CdsExon, and its offset counts coding bases.
 -- Assumes nothing.
+use Rattle.std.specs.Prelude.{Err, Ok}
+use Rattle.common.specs.Refusal.{refusal}
+use Rattle.std.proofs.Common.{Option}
 use Prim.Native.Nat.{ℕ, ◌+◌}
 use mathlib.Core.Path.{◌≡◌, refl, sym, ◌∙◌, ap}
 use mathlib.Core.List.{List}
@@ -17,9 +20,7 @@ use Rattle.footprint.specs.declared.Ranges.{Ranges}
 use Rattle.locate.specs.declared.VariantLocation.{VariantLocation}
 use Rattle.locate.specs.PlaceKind.{is_cds_exon, place_offset}
 use Rattle.locate.proofs.CodingBases.{coding_base_lem, offset_counts}
-use Rattle.consequence.specs.declared.FetchedCodon.{FetchedCodon}
 use Rattle.consequence.specs.declared.Call.{Call}
-use Rattle.consequence.specs.declared.Called.{Called}
 use Rattle.consequence.specs.declared.ConsequenceResult.{ConsequenceResult}
 use Rattle.consequence.specs.Window.{Window, in_window, byte_at, coding_byte}
 use Rattle.consequence.specs.declared.region.Region.{Region}
@@ -27,6 +28,7 @@ use Rattle.consequence.specs.Region.{region_of}
 use Rattle.consequence.specs.Answer.{Columns, region_result, place_result}
 use Rattle.consequence.specs.Call.{call_place, call_codon, bad_alt, window_refusal, opening_refusal, call_refusal, call_result, annotate_snv}
 use Rattle.consequence.specs.claims.CallPlaces.{CodingCalls, CallOffsetsCount}
+use Rattle.codon.specs.declared.Codon.{Codon}
 
 -- an answer keeps the place that it was made at
 in_region : (t : Oriented) (p : ℕ) (place : VariantLocation) (g : Region) (c : Columns) (terms : ℕ) → (region_result t p place g c terms).location ≡ place
@@ -36,19 +38,19 @@ in_region t p place (Region.Intron i x m) c terms = refl
 in_region t p place (Region.Exon i x m) c terms = refl
 in_region t p place (Region.Coding i o n k m) c terms = refl
 
-pub located : (code : List ℕ) (t : Oriented) (p alt : ℕ) (codon : ℕ → FetchedCodon) (place : VariantLocation) → (place_result code t p alt codon place).location ≡ place
+pub located : (code : List ℕ) (t : Oriented) (p alt : ℕ) (codon : ℕ → Option Codon) (place : VariantLocation) → (place_result code t p alt codon place).location ≡ place
 unfolding place_result
 located code t p alt codon place = in_region t p place (region_of t.coding place) _ _
 
 -- an answered call: nothing refuses it before its place is known
-module _ (r : Ranges) (t : Transcript) (w : Window) (q : Call) (a : ConsequenceResult) (h : annotate_snv r t w q ≡ Called.Answered a) where
+module _ (r : Ranges) (t : Transcript) (w : Window) (q : Call) (a : ConsequenceResult) (h : annotate_snv r t w q ≡ Ok a) where
   pub answers : (opening_refusal t w q ≡ 0) × (a ≡ call_result r t w q)
   unfolding annotate_snv call_refusal
   answers =
       on_test (eqb (call_refusal r t w q) 0)
-      (λ e. (let k : Called.Answered (call_result r t w q) ≡ Called.Answered a = rw e at h in
+      (λ e. (let k : Ok (call_result r t w q) ≡ Ok a = rw e at h in
       ((or_else_none (opening_refusal t w q) _ (eqb-true (call_refusal r t w q) 0 e)).0, cc)))
-      (λ e. absurd (let k : Called.Refused (call_refusal r t w q) ≡ Called.Answered a = rw e at h in let z : ◌≡◌ {A = ℕ} 0 1 = cc in omega arith))
+      (λ e. absurd (let k : Err (refusal (call_refusal r t w q)) ≡ Ok a = rw e at h in let z : ◌≡◌ {A = ℕ} 0 1 = cc in omega arith))
 
   abbrev away : Bool
   away = is_elsewhere t q.chromosome || is_elsewhere t w.chromosome

@@ -1,5 +1,6 @@
 -- The codon of a coding call holds the called base at the place in the codon.
 -- Assumes nothing.
+use Rattle.std.proofs.Common.{Option, Some, None}
 use Prim.Native.Nat.{ℕ, ◌+◌, ◌-◌, ◌%◌, ◌<◌}
 use mathlib.Core.Path.{◌≡◌, sym, ◌∙◌, ap}
 use mathlib.Core.Bool.{true}
@@ -16,8 +17,6 @@ use Rattle.locate.specs.Place.{cds_offset, total_cds_length, coding_position}
 use Rattle.locate.specs.PlaceKind.{is_cds_exon, place_offset}
 use Rattle.locate.proofs.Coding.{coding_place, coding_offset}
 use Rattle.locate.proofs.CodingExons.{segments_ascend}
-use Rattle.consequence.specs.declared.FetchedBase.{FetchedBase}
-use Rattle.consequence.specs.declared.FetchedCodon.{FetchedCodon}
 use Rattle.consequence.specs.Window.{Window, in_window, byte_at, base_at, coding_fetched, coding_base}
 use Rattle.consequence.specs.Reading.{cds_base, length_at, codon_length, codon_of, if_there, fetch_bases, fetch_codon}
 use Rattle.consequence.specs.claims.Codons.{codon_byte, CodonHoldsBase}
@@ -33,26 +32,26 @@ length_holds total k l = on_test (eqb (total % 3) 0)
     (λ f. (let u = leb-true (total - total % 3) k f in rw (e, f) (omega arith)))
     (λ f. rw (e, f) (omega arith)))
 
-abbrev byte_of : FetchedBase → ℕ
-byte_of (FetchedBase.Base b) = b
-byte_of FetchedBase.OutsideWindow = 0
+abbrev byte_of : Option ℕ → ℕ
+byte_of (Some b) = b
+byte_of None = 0
 
-abbrev bytes_of : FetchedCodon → Codon
-bytes_of (FetchedCodon.Bases c) = c
-bytes_of FetchedCodon.OutsideWindow = record { len = 0; first = 0; second = 0; third = 0 }
+abbrev bytes_of : Option Codon → Codon
+bytes_of (Some c) = c
+bytes_of None = record { len = 0; first = 0; second = 0; third = 0 }
 
-lost : {A : Type 0} {c : Codon} → FetchedCodon.OutsideWindow ≡ FetchedCodon.Bases c → A
+lost : {A : Type 0} {c : Codon} → None ≡ Some c → A
 lost h = absurd (let z : ◌≡◌ {A = ℕ} 0 1 = cc in omega arith)
 
 -- the bytes of a codon that was read
-read : (n : ℕ) (x y z : FetchedBase) (c : Codon) → codon_of n x y z ≡ FetchedCodon.Bases c → record { len = n; first = byte_of x; second = byte_of y; third = byte_of z } ≡ c
-read n (FetchedBase.Base a) (FetchedBase.Base b) (FetchedBase.Base d) c h = ap bytes_of h
-read n (FetchedBase.Base a) (FetchedBase.Base b) FetchedBase.OutsideWindow c h = lost h
-read n (FetchedBase.Base a) FetchedBase.OutsideWindow z c h = lost h
-read n FetchedBase.OutsideWindow y z c h = lost h
+read : (n : ℕ) (x y z : Option ℕ) (c : Codon) → codon_of n x y z ≡ Some c → record { len = n; first = byte_of x; second = byte_of y; third = byte_of z } ≡ c
+read n (Some a) (Some b) (Some d) c h = ap bytes_of h
+read n (Some a) (Some b) None c h = lost h
+read n (Some a) None z c h = lost h
+read n None y z c h = lost h
 
 -- the byte at the place in the codon is the base at the padded offset
-module _ (t : Oriented) (view : ℕ → FetchedBase) (k : ℕ) (c : Codon) (l : k < total_cds_length t) (h : fetch_codon t view k ≡ FetchedCodon.Bases c) where
+module _ (t : Oriented) (view : ℕ → Option ℕ) (k : ℕ) (c : Codon) (l : k < total_cds_length t) (h : fetch_codon t view k ≡ Some c) where
   abbrev n : ℕ
   n = codon_length t k
 
@@ -81,7 +80,7 @@ module _ (t : Oriented) (view : ℕ → FetchedBase) (k : ℕ) (c : Codon) (l : 
       second e f = omega arith
 
 -- the coding base at the padded offset of a base of the segments
-base_at_lem : (t : Oriented) (view : ℕ → FetchedBase) (p k : ℕ) → k ≡ cds_offset t p → coding_position t.segments (bases_in t.segments 0 p) ≡ p → cds_base t view k ≡ view p
+base_at_lem : (t : Oriented) (view : ℕ → Option ℕ) (p k : ℕ) → k ≡ cds_offset t p → coding_position t.segments (bases_in t.segments 0 p) ≡ p → cds_base t view k ≡ view p
 unfolding cds_base
 base_at_lem t view p k e h =
     rw (e, le-ltb (t.pad + bases_in t.segments 0 p) t.pad (omega arith), less t.pad (bases_in t.segments 0 p), h)
@@ -90,7 +89,7 @@ base_at_lem t view p k e h =
     less m n = omega arith
 
 -- a base in the window
-base_there : (w : Window) (p : ℕ) → in_window w p ≡ true → base_at w p ≡ FetchedBase.Base (byte_at w p)
+base_there : (w : Window) (p : ℕ) → in_window w p ≡ true → base_at w p ≡ Some (byte_at w p)
 unfolding base_at
 base_there w p v = rw v
 
@@ -111,4 +110,4 @@ codon_holds_base r t w q a c h e g =
     byte_held (oriented t) (coding_base σ w) (place_offset a.location) c (omega arith) g
     ∙ ap byte_of (base_at_lem (oriented t) (coding_base σ w) p (place_offset a.location) o b.1)
     ∙ ap (λ (x : ℕ). byte_of (coding_fetched σ (base_at w x))) back
-    ∙ ap (λ (x : FetchedBase). byte_of (coding_fetched σ x)) v
+    ∙ ap (λ (x : Option ℕ). byte_of (coding_fetched σ x)) v

@@ -1,4 +1,3 @@
-pub mod WindowFacts
 pub mod CodingBases
 pub mod CodonBases
 pub mod Selenocysteines
@@ -13,3 +12,4 @@ pub mod CodonHolds
 pub mod ShownCodons
 pub mod NumbersGiven
 pub mod SomeTerm
+pub mod OnPrepared

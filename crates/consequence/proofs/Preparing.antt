@@ -1,5 +1,6 @@
 -- An admitted transcript with its index: what an answer at a place of it needs.
 -- Assumes nothing.
+use Rattle.std.proofs.Common.{Option}
 use Prim.Native.Nat.{ℕ, ◌+◌, ◌-◌, ◌/◌, ◌≤◌, ◌<◌, min, max}
 use mathlib.Core.Path.{◌≡◌, sym, ◌∙◌, ap}
 use mathlib.Core.Bool.{Bool, true}
@@ -7,7 +8,6 @@ use mathlib.Core.List.{List, [], ◌∷◌}
 use native.Mathlib.Omega.{arith}
 use lib.ListN.{length, get_or, replicate, length-map, length-append}
 use lib.Dec.{ltb}
-use Rattle.common.specs.Lists.{any}
 use Rattle.common.proofs.TestParts.{on_test, true_false}
 use Rattle.transcript.specs.declared.TranscriptModel.{TranscriptModel}
 use Rattle.transcript.specs.Limits.{top}
@@ -32,13 +32,13 @@ use Rattle.locate.proofs.Offset.{CdnaOf, index_cdna}
 use Rattle.locate.proofs.CodedBases.{ready_coded}
 use Rattle.locate.proofs.LentTranscript.{known, ad, exons_are, segments_are, bases_are, count, segment_count, ready, coding_is, pad_2}
 use Rattle.locate.proofs.LentIndex.{exonic, coding, total, coded}
-use Rattle.consequence.specs.declared.FetchedCodon.{FetchedCodon}
 use Rattle.consequence.specs.declared.region.Region.{Region}
 use Rattle.consequence.specs.Region.{region_of}
 use Rattle.consequence.specs.code.AtPlace.{region_called, place_called}
 use Rattle.consequence.specs.code.Segments.{Segments}
 use Rattle.consequence.specs.code.Prepared.{Prepared}
 use Rattle.consequence.proofs.Regions.{by_region, Here, AtRegion, placed, coding_region}
+use Rattle.codon.specs.declared.Codon.{Codon}
 
 -- the bases before p are at most all of them, and fewer where p is one of them
 part_le : (s e p : ℕ) → min e p - max s 0 ≤ e - s
@@ -53,7 +53,7 @@ before_le [] p = omega arith
 before_le (x ∷ xs) p = let r = before_le xs p in let a = part_le x.start x.end p in omega arith
 
 before_lt : (xs : List Interval) (p : ℕ) → inside_any p xs ≡ true → bases_in xs 0 p < total_size xs
-unfolding bases_in sum any
+unfolding bases_in sum
 before_lt [] p h = absurd (true_false (sym h))
 before_lt (x ∷ xs) p h = on_test (inside p x)
     (λ e. (let r = before_le xs p in let a = part_lt x.start x.end p (inside_start p x e) (inside_end p x e) in omega arith))
@@ -116,7 +116,7 @@ module _ (m : TranscriptModel) (ss es ps is gs ge bs : List ℕ) (x : IndexScala
     pub at_region : AtRegion o.exons p g
     at_region = rw (coding_same ∙ ap (region_of o.coding) q) (placed r o p)
 
-    pub called : (code : List ℕ) (alt : ℕ) (codon : ℕ → FetchedCodon) → region_called code o p alt codon place g ≡ place_called code o p alt codon place
+    pub called : (code : List ℕ) (alt : ℕ) (codon : ℕ → Option Codon) → region_called code o p alt codon place g ≡ place_called code o p alt codon place
     called code alt codon = ap (region_called code o p alt codon place) coding_same ∙ by_region code o p alt codon place
 
   -- a coding base

@@ -1,5 +1,6 @@
 -- The refusals of a call before its place is known, a case at a time.
 -- Assumes nothing.
+use Rattle.std.proofs.Common.{Option, Some, None}
 use Prim.Native.Nat.{ℕ, ◌+◌, ◌≤◌, ◌<◌}
 use mathlib.Core.Path.{◌≡◌, refl, sym, ◌∙◌, ap}
 use mathlib.Core.Bool.{Bool, true, false, not, ◌||◌}
@@ -12,7 +13,6 @@ use Rattle.transcript.specs.Transcript.{Transcript}
 use Rattle.transcript.specs.Admission.{admission}
 use Rattle.transcript.specs.Question.{bad_interval, is_elsewhere}
 use Rattle.consequence.specs.declared.Call.{Call}
-use Rattle.consequence.specs.declared.FetchedBase.{FetchedBase}
 use Rattle.consequence.specs.Window.{Window, in_window, byte_at, base_at}
 use Rattle.consequence.specs.Call.{bad_alt, window_refusal, opening_refusal}
 
@@ -28,23 +28,23 @@ good_base : (p : ℕ) → p < query_limit → bad_interval p (p + 1) ≡ false
 good_base p h = rw (le-ltb query_limit p (omega arith), le-ltb query_limit (p + 1) (omega arith), le-ltb (p + 1) p (omega arith))
 
 -- a base read through the window
-abbrev is_base : FetchedBase → Bool
-is_base (FetchedBase.Base b) = true
-is_base FetchedBase.OutsideWindow = false
+abbrev is_base : Option ℕ → Bool
+is_base (Some b) = true
+is_base None = false
 
-abbrev byte_of : FetchedBase → ℕ
-byte_of (FetchedBase.Base b) = b
-byte_of FetchedBase.OutsideWindow = 0
+abbrev byte_of : Option ℕ → ℕ
+byte_of (Some b) = b
+byte_of None = 0
 
 module _ (w : Window) (q : Call) where
   inside_is : is_base (base_at w q.position) ≡ in_window w q.position
   unfolding base_at
   inside_is = on_test (in_window w q.position) (λ e. rw e) (λ e. rw e)
 
-  pub is_17 : base_at w q.position ≡ FetchedBase.OutsideWindow → 17 ≡ window_refusal w q
+  pub is_17 : base_at w q.position ≡ None → 17 ≡ window_refusal w q
   is_17 e = let i : in_window w q.position ≡ false = sym inside_is ∙ ap is_base e in rw i
 
-  module _ (b : ℕ) (e : base_at w q.position ≡ FetchedBase.Base b) where
+  module _ (b : ℕ) (e : base_at w q.position ≡ Some b) where
     inside_true : in_window w q.position ≡ true
     inside_true = sym inside_is ∙ ap is_base e
 

@@ -1,12 +1,13 @@
 -- The regions of places: the answer there, and what they say of the base.
 -- Assumes nothing.
+use Rattle.std.proofs.Common.{Option, Some, None}
 use Prim.Native.Nat.{ℕ, suc, ◌+◌, ◌-◌, ◌≤◌, ◌<◌}
 use mathlib.Core.Path.{◌≡◌, refl, sym, ◌∙◌, ap}
 use mathlib.Core.Bool.{Bool, true, false, cond, not, ◌&&◌, ◌||◌}
 use mathlib.Core.List.{List, [], ◌∷◌}
 use native.Mathlib.Omega.{arith}
 use lib.ListN.{length, get_or}
-use lib.Dec.{leb, ltb, eqb}
+use lib.Dec.{leb, ltb}
 use borrow.Author.Tests.{ltb-true, ltb-false}
 use Rattle.common.proofs.TestParts.{on_test}
 use Rattle.transcript.specs.Orient.{Interval, Oriented}
@@ -21,21 +22,21 @@ use Rattle.locate.specs.Find.{Found, in_exon, in_intron, outside, find_after, fi
 use Rattle.locate.specs.Intronic.{signed_distance, deep_intron, classify_distances}
 use Rattle.locate.specs.Place.{exonic, place_found, locate}
 use Rattle.locate.specs.PlaceKind.{is_cds_exon, place_offset}
-use Rattle.consequence.specs.declared.FetchedCodon.{FetchedCodon}
-use Rattle.consequence.specs.declared.Called.{Called}
+use Rattle.common.specs.Refusal.{outcome}
 use Rattle.consequence.specs.declared.region.Region.{Region}
 use Rattle.consequence.specs.Answer.{codon_columns, codon_result, place_result}
 use Rattle.consequence.specs.Call.{is_outside, closing_refusal}
 use Rattle.consequence.specs.Region.{region_of}
 use Rattle.consequence.specs.code.AtPlace.{coding_called, region_called, place_called}
+use Rattle.codon.specs.declared.Codon.{Codon}
 
 -- the answer from the region is the answer at the place
-module _ (code : List ℕ) (t : Oriented) (p alt : ℕ) (codon : ℕ → FetchedCodon) where
-  coded : (place : VariantLocation) (i : ℕ) (o : CdsOffset) (n k : ℕ) (m : Bool) (c : FetchedCodon)
+module _ (code : List ℕ) (t : Oriented) (p alt : ℕ) (codon : ℕ → Option Codon) where
+  coded : (place : VariantLocation) (i : ℕ) (o : CdsOffset) (n k : ℕ) (m : Bool) (c : Option Codon)
       → coding_called code t p alt place i o n k m c
-      ≡ cond (eqb (closing_refusal false (is_outside c)) 0) (Called.Answered (codon_result t p place (Region.Coding i o n k m) (codon_columns code t o.0 n k alt c))) (Called.Refused (closing_refusal false (is_outside c)))
-  coded place i o n k m (FetchedCodon.Bases c) = refl
-  coded place i o n k m FetchedCodon.OutsideWindow = refl
+      ≡ outcome (closing_refusal false (is_outside c)) (codon_result t p place (Region.Coding i o n k m) (codon_columns code t o.0 n k alt c))
+  coded place i o n k m (Some c) = refl
+  coded place i o n k m None = refl
 
   pub by_region : (place : VariantLocation) → region_called code t p alt codon place (region_of t.coding place) ≡ place_called code t p alt codon place
   unfolding place_called place_result

@@ -1,5 +1,6 @@
 -- The codons that an answer shows are the codon of the called base and that codon with the call's base put in.
 -- Assumes nothing.
+use Rattle.std.proofs.Common.{Option, Some, None}
 use Prim.Native.Nat.{ℕ, ◌+◌, ◌-◌, ◌%◌}
 use mathlib.Core.Path.{◌≡◌, refl, sym, ◌∙◌, ap}
 use mathlib.Core.List.{List}
@@ -21,7 +22,6 @@ use Rattle.locate.specs.Intronic.{classify_intronic}
 use Rattle.locate.specs.Place.{exonic, place_found, locate}
 use Rattle.locate.specs.PlaceKind.{is_cds_exon, place_offset}
 use Rattle.locate.proofs.Coding.{intron_not_coding}
-use Rattle.consequence.specs.declared.FetchedCodon.{FetchedCodon}
 use Rattle.consequence.specs.declared.ConsequenceResult.{ConsequenceResult}
 use Rattle.consequence.specs.Window.{coding_byte}
 use Rattle.consequence.specs.Reading.{is_incomplete_terminal_codon, holds_selenocysteine}
@@ -31,6 +31,7 @@ use Rattle.consequence.specs.Call.{call_table, call_place, call_codon, call_resu
 use Rattle.consequence.specs.claims.Codons.{codon_byte, ShownCodons}
 use Rattle.consequence.proofs.CallPlaces.{answers, call_location}
 use Rattle.consequence.proofs.CodonHolds.{codon_holds_base}
+use Rattle.codon.specs.Display.{change_at}
 
 -- the place in the codon of a CdsExon, 0 of every other place
 abbrev codon_place : VariantLocation → ℕ
@@ -80,32 +81,33 @@ module _ (r : Ranges) (t : Oriented) (p : ℕ) where
 
 -- what codons that are shown say
 module _ (c d : Codon) (k : ℕ) where
-  absent : {A : Type 0} → Codons.Absent ≡ Codons.Change c d k → A
+  absent : {A : Type 0} → None ≡ Some (change_at c d k) → A
   absent h = absurd (let z : ◌≡◌ {A = ℕ} 0 1 = cc in omega arith)
 
-  pub record Change (f : FetchedCodon) (alt place : ℕ) : Type 0 where
-    pub read : f ≡ FetchedCodon.Bases c
+  pub record Change (f : Option Codon) (alt place : ℕ) : Type 0 where
+    pub read : f ≡ Some c
     pub altered : build_alt_codon c place alt ≡ d
     pub at : place ≡ k
 
-  same : (x : Codon) (alt place : ℕ) → Codons.Change x (build_alt_codon x place alt) place ≡ Codons.Change c d k → Change (FetchedCodon.Bases x) alt place
+  same : (x : Codon) (alt place : ℕ) → Some (change_at x (build_alt_codon x place alt) place) ≡ Some (change_at c d k) → Change (Some x) alt place
   same x alt place h =
-      let e : x ≡ c = cc in
-      let g : build_alt_codon x place alt ≡ d = cc in
-      let i : place ≡ k = cc in
-      record { read = ap FetchedCodon.Bases e; altered = sym (ap (λ (y : Codon). build_alt_codon y place alt) e) ∙ g; at = i }
+      let s : change_at x (build_alt_codon x place alt) place ≡ change_at c d k = cc in
+      let e = ap (λ (y : Codons). y.reference) s in
+      let g = ap (λ (y : Codons). y.altered) s in
+      let i = ap (λ (y : Codons). y.place) s in
+      record { read = ap Some e; altered = sym (ap (λ (y : Codon). build_alt_codon y place alt) e) ∙ g; at = i }
 
-  by_codon : (code : List ℕ) (t : Oriented) (o n place alt : ℕ) (f : FetchedCodon) → (codon_columns code t o n place alt f).codons ≡ Codons.Change c d k → Change f alt place
+  by_codon : (code : List ℕ) (t : Oriented) (o n place alt : ℕ) (f : Option Codon) → (codon_columns code t o n place alt f).codons ≡ Some (change_at c d k) → Change f alt place
   unfolding codon_columns
-  by_codon code t o n place alt (FetchedCodon.Bases x) h =
+  by_codon code t o n place alt (Some x) h =
       on_test (is_incomplete_terminal_codon t o)
       (λ e. same x alt place (rw e at h))
       (λ e. on_test (shows_codon t n (translate_reference_codon code (holds_selenocysteine t n) x))
       (λ s. same x alt place (rw (e, s) at h))
       (λ s. absent (rw (e, s) at h)))
-  by_codon code t o n place alt FetchedCodon.OutsideWindow h = absent h
+  by_codon code t o n place alt None h = absent h
 
-  by_place : (code : List ℕ) (t : Oriented) (p alt : ℕ) (codon : ℕ → FetchedCodon) (place : VariantLocation) → (place_result code t p alt codon place).codons ≡ Codons.Change c d k
+  by_place : (code : List ℕ) (t : Oriented) (p alt : ℕ) (codon : ℕ → Option Codon) (place : VariantLocation) → (place_result code t p alt codon place).codons ≡ Some (change_at c d k)
       → (is_cds_exon place ≡ true) × Change (codon (place_offset place)) alt (codon_place place)
   unfolding place_result
   by_place code t p alt codon (Upstream e) h = absent h

@@ -1,5 +1,8 @@
 -- An answered call has a term: its place is not distal, its codon is there, and a spill that takes a term away adds one.
 -- Assumes nothing.
+use Rattle.std.specs.Prelude.{Err, Ok}
+use Rattle.common.specs.Refusal.{refusal}
+use Rattle.std.proofs.Common.{Option, Some, None}
 use Prim.Native.Nat.{ℕ}
 use mathlib.Core.Path.{◌≡◌}
 use mathlib.Core.Bool.{true}
@@ -22,9 +25,7 @@ use Rattle.terms.specs.declared.Consequence.TheVariants.{SpliceRegionVariant, In
 use Rattle.terms.specs.Terms.{only}
 use Rattle.terms.specs.Coding.{coding_term}
 use Rattle.terms.proofs.HoldsSome.{HoldsSome, some_only, some_with_if, some_spilled, some_severe}
-use Rattle.consequence.specs.declared.FetchedCodon.{FetchedCodon}
 use Rattle.consequence.specs.declared.Call.{Call}
-use Rattle.consequence.specs.declared.Called.{Called}
 use Rattle.consequence.specs.declared.ConsequenceResult.{ConsequenceResult}
 use Rattle.consequence.specs.declared.region.Region.{Region}
 use Rattle.consequence.specs.Window.{Window, coding_byte}
@@ -36,6 +37,7 @@ use Rattle.consequence.specs.Call.{is_outside, lacks_codon, closing_refusal, ope
 use Rattle.consequence.specs.Call.{call_table, call_place, call_codon, call_result, annotate_snv}
 use Rattle.consequence.specs.claims.SomeTerm.{SomeTerm}
 use Rattle.consequence.proofs.CallPlaces.{answers}
+use Rattle.codon.specs.declared.Codon.{Codon}
 
 -- a region has a term of its own, or its codon has one
 abbrev Named : Region → ℕ → Type 0
@@ -54,19 +56,19 @@ region_some t p place (Region.Exon i x m) c h = some_with_if m (only x) SpliceRe
 region_some t p place (Region.Coding i o n k m) c h = some_with_if m c.terms SpliceRegionVariant h
 
 module _ (code : List ℕ) (t : Oriented) (alt : ℕ) where
-  codon_some : (offset number k : ℕ) (f : FetchedCodon) → refuse (is_outside f) 21 0 ≡ 0
+  codon_some : (offset number k : ℕ) (f : Option Codon) → refuse (is_outside f) 21 0 ≡ 0
       → HoldsSome (codon_columns code t offset number k alt f).terms
   unfolding codon_columns
-  codon_some offset number k (FetchedCodon.Bases c) h =
+  codon_some offset number k (Some c) h =
       let r = translate_reference_codon code (holds_selenocysteine t number) c in
       let a = translate_codon code (build_alt_codon c k alt) in
       on_test (is_incomplete_terminal_codon t offset)
       (λ e. rw e (some_with_if true (only IncompleteTerminalCodonVariant) CodingSequenceVariant (some_only IncompleteTerminalCodonVariant)))
       (λ e. rw e (some_only (coding_term (is_start_codon t number) r a)))
-  codon_some offset number k FetchedCodon.OutsideWindow h = absurd (omega arith)
+  codon_some offset number k None h = absurd (omega arith)
 
   -- a place that is not refused
-  named : (codon : ℕ → FetchedCodon) (place : VariantLocation) → closing_refusal (is_distal place) (lacks_codon codon place) ≡ 0
+  named : (codon : ℕ → Option Codon) (place : VariantLocation) → closing_refusal (is_distal place) (lacks_codon codon place) ≡ 0
       → Named (region_of t.coding place) (region_columns code t alt codon (region_of t.coding place)).terms
   named codon (Upstream d) h = tt
   named codon (Downstream d) h = tt
@@ -84,12 +86,12 @@ module _ (code : List ℕ) (t : Oriented) (alt : ℕ) where
 
 module _ (r : Ranges) (t : Transcript) (w : Window) (q : Call) where
   -- an answered call is not refused by its place
-  closed : (a : ConsequenceResult) → annotate_snv r t w q ≡ Called.Answered a
+  closed : (a : ConsequenceResult) → annotate_snv r t w q ≡ Ok a
       → closing_refusal (is_distal (call_place r t q)) (lacks_codon (call_codon t w) (call_place r t q)) ≡ 0
   unfolding annotate_snv call_refusal
   closed a h = on_test (eqb (call_refusal r t w q) 0)
       (λ e. (or_else_none (opening_refusal t w q) _ (eqb-true (call_refusal r t w q) 0 e)).1)
-      (λ e. absurd (let k : Called.Refused (call_refusal r t w q) ≡ Called.Answered a = rw e at h in
+      (λ e. absurd (let k : Err (refusal (call_refusal r t w q)) ≡ Ok a = rw e at h in
       let z : ◌≡◌ {A = ℕ} 0 1 = cc in omega arith))
 
   result_some : closing_refusal (is_distal (call_place r t q)) (lacks_codon (call_codon t w) (call_place r t q)) ≡ 0

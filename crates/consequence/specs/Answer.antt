@@ -1,5 +1,5 @@
 -- The whole answer for a base at a place, before the splice spill.
-use Rattle.std.specs.Prelude.{ℕ, ◌+◌, ◌-◌, cond, List, length}
+use Rattle.std.specs.Prelude.{ℕ, ◌+◌, ◌-◌, cond, List, length, Option, Some, None}
 use Rattle.common.specs.Text.{byte}
 use Rattle.codon.specs.declared.Codon.{Codon}
 use Rattle.codon.specs.declared.Codons.{Codons}
@@ -8,10 +8,7 @@ use Rattle.codon.specs.Table.{translate_codon, translate_reference_codon, build_
 use Rattle.locate.specs.declared.VariantLocation.{VariantLocation}
 use Rattle.transcript.specs.Orient.{Oriented}
 use Rattle.locate.specs.Place.{cdna_position}
-use Rattle.consequence.specs.declared.FetchedCodon.{FetchedCodon}
 use Rattle.consequence.specs.declared.Numbered.{Numbered}
-use Rattle.consequence.specs.declared.Counted.{Counted}
-use Rattle.consequence.specs.declared.CdnaCounted.{CdnaCounted}
 use Rattle.consequence.specs.declared.ConsequenceResult.{ConsequenceResult}
 use Rattle.consequence.specs.declared.region.Region.{Region}
 use Rattle.terms.specs.declared.Consequence.TheVariants.{IncompleteTerminalCodonVariant, CodingSequenceVariant}
@@ -20,26 +17,32 @@ use Rattle.consequence.specs.Reading.{is_incomplete_terminal_codon, holds_seleno
 use Rattle.terms.specs.Coding.{coding_term}
 use Rattle.consequence.specs.Region.{region_of, region_terms}
 use Rattle.consequence.specs.Coding.{is_start_codon, shows_codon, shown_letters}
+use Rattle.codon.specs.Display.{change_at}
+use Rattle.locate.specs.declared.CdnaPosition.{CdnaPosition}
+
+-- number k of n
+abbrev pub nth_of : ℕ → ℕ → Numbered
+nth_of k n = record { number = k; total = n }
 
 -- a cDNA position as a plain number
-abbrev pub cdna_count : CdnaCounted → Counted
-cdna_count CdnaCounted.Absent = Counted.Absent
-cdna_count (CdnaCounted.At p) = Counted.At p.0
+abbrev pub cdna_count : Option CdnaPosition → Option ℕ
+cdna_count None = None
+cdna_count (Some p) = Some p.0
 
 -- what a coding base's codon gives: CDS position, codon number, codons, letters, terms
 pub record Columns : Type 0 where
-  pub position : Counted
-  pub number : Counted
-  pub codons : Codons
-  pub letters : AminoAcids
+  pub position : Option ℕ
+  pub number : Option ℕ
+  pub codons : Option Codons
+  pub letters : Option AminoAcids
   pub terms : ℕ
 
 -- a base that is not coding has no codon
 abbrev pub no_codon : Columns
-no_codon = record { position = Counted.Absent; number = Counted.Absent; codons = Codons.Absent; letters = AminoAcids.Absent; terms = 0 }
+no_codon = record { position = None; number = None; codons = None; letters = None; terms = 0 }
 
 -- the columns of an answer, with a codon's
-abbrev pub answer_of : VariantLocation → Numbered → Numbered → CdnaCounted → Columns → ℕ → ConsequenceResult
+abbrev pub answer_of : VariantLocation → Option Numbered → Option Numbered → Option CdnaPosition → Columns → ℕ → ConsequenceResult
 answer_of place exon intron cdna c terms = record {
   location = place;
   exon = exon;
@@ -54,32 +57,32 @@ answer_of place exon intron cdna c terms = record {
 
 -- outside the transcript only the place and the term are given
 abbrev pub flank_result : VariantLocation → ℕ → ConsequenceResult
-flank_result place terms = answer_of place Numbered.Absent Numbered.Absent CdnaCounted.Absent no_codon terms
+flank_result place terms = answer_of place None None None no_codon terms
 
 -- in intron i: its number of all introns
 abbrev pub intron_result : Oriented → VariantLocation → ℕ → ℕ → ConsequenceResult
-intron_result t place i terms = answer_of place Numbered.Absent (Numbered.Of (i + 1) (length t.exons - 1)) CdnaCounted.Absent no_codon terms
+intron_result t place i terms = answer_of place None (Some (nth_of (i + 1) (length t.exons - 1))) None no_codon terms
 
 -- in exon i at position p
 abbrev pub exon_result : Oriented → ℕ → VariantLocation → ℕ → Columns → ℕ → ConsequenceResult
-exon_result t p place i c terms = answer_of place (Numbered.Of (i + 1) (length t.exons)) Numbered.Absent (CdnaCounted.At (record { 0 = cdna_position t p })) c terms
+exon_result t p place i c terms = answer_of place (Some (nth_of (i + 1) (length t.exons))) None (Some (record { 0 = cdna_position t p })) c terms
 
 -- an unfinished last codon: its own bases as codons, letter X
 abbrev pub incomplete_codon : ℕ → ℕ → Codon → Codon → ℕ → Columns
 incomplete_codon offset number c altered k = record {
-  position = Counted.At (offset + 1);
-  number = Counted.At number;
-  codons = Codons.Change c altered k;
-  letters = AminoAcids.One (byte "X");
+  position = Some (offset + 1);
+  number = Some number;
+  codons = Some (change_at c altered k);
+  letters = Some (AminoAcids.One (byte "X"));
   terms = with_term (only IncompleteTerminalCodonVariant) CodingSequenceVariant;
 }
 
 -- a whole codon with its reference letter and its altered letter
 abbrev pub whole_codon : Oriented → ℕ → ℕ → Codon → Codon → ℕ → ℕ → ℕ → Columns
 whole_codon t offset number c altered k ref alt = record {
-  position = Counted.At (offset + 1);
-  number = cond (shows_codon t number ref) (Counted.At number) Counted.Absent;
-  codons = cond (shows_codon t number ref) (Codons.Change c altered k) Codons.Absent;
+  position = Some (offset + 1);
+  number = cond (shows_codon t number ref) (Some number) None;
+  codons = cond (shows_codon t number ref) (Some (change_at c altered k)) None;
   letters = shown_letters t number ref alt;
   terms = only (coding_term (is_start_codon t number) ref alt);
 }
@@ -94,12 +97,12 @@ read_codon code t offset number c altered k =
     (translate_codon code altered))
 
 -- a codon outside the window is refused before (21)
-unfoldable pub codon_columns : List ℕ → Oriented → ℕ → ℕ → ℕ → ℕ → FetchedCodon → Columns
-codon_columns code t offset number k alt (FetchedCodon.Bases c) = read_codon code t offset number c (build_alt_codon c k alt) k
-codon_columns code t offset number k alt FetchedCodon.OutsideWindow = no_codon
+unfoldable pub codon_columns : List ℕ → Oriented → ℕ → ℕ → ℕ → ℕ → Option Codon → Columns
+codon_columns code t offset number k alt (Some c) = read_codon code t offset number c (build_alt_codon c k alt) k
+codon_columns code t offset number k alt None = no_codon
 
 -- what the codon of a region gives; `alt` is the coding base put in, and `codon` gives the codon that holds a padded offset
-abbrev pub region_columns : List ℕ → Oriented → ℕ → (ℕ → FetchedCodon) → Region → Columns
+abbrev pub region_columns : List ℕ → Oriented → ℕ → (ℕ → Option Codon) → Region → Columns
 region_columns code t alt codon Region.Distal = no_codon
 region_columns code t alt codon (Region.Flank c) = no_codon
 region_columns code t alt codon (Region.Intron i c m) = no_codon
@@ -119,6 +122,6 @@ abbrev pub codon_result : Oriented → ℕ → VariantLocation → Region → Co
 codon_result t p place region c = region_result t p place region c (region_terms c.terms region)
 
 -- the answer at a place in a genetic code
-unfoldable pub place_result : List ℕ → Oriented → ℕ → ℕ → (ℕ → FetchedCodon) → VariantLocation → ConsequenceResult
+unfoldable pub place_result : List ℕ → Oriented → ℕ → ℕ → (ℕ → Option Codon) → VariantLocation → ConsequenceResult
 place_result code t p alt codon place =
     codon_result t p place (region_of t.coding place) (region_columns code t alt codon (region_of t.coding place))

@@ -1,6 +1,7 @@
 -- The single-base call, with its refusals: 1 to 13, then 15, 14, 16, 17, 18, 19, 21.
-use Rattle.std.specs.Prelude.{ℕ, ◌+◌, Bool, true, false, cond, not, ◌&&◌, ◌||◌, List, eqb}
+use Rattle.std.specs.Prelude.{ℕ, ◌+◌, Bool, true, false, cond, not, ◌&&◌, ◌||◌, List, eqb, Option, Some, None}
 use Rattle.common.specs.Refuse.{refuse, or_else}
+use Rattle.common.specs.Refusal.{outcome}
 use Rattle.codon.specs.Bases.{is_base}
 use Rattle.codon.specs.declared.GeneticCode.{GeneticCode}
 use Rattle.codon.specs.Table.{code_table}
@@ -15,14 +16,14 @@ use Rattle.locate.specs.PlaceKind.{is_distal, is_cds_exon, place_offset}
 use Rattle.footprint.specs.ShortIntron.{exonic_splice_spill}
 use Rattle.transcript.specs.Admission.{admission}
 use Rattle.transcript.specs.Question.{bad_interval, is_elsewhere, query_refusal}
-use Rattle.consequence.specs.declared.FetchedCodon.{FetchedCodon}
 use Rattle.consequence.specs.declared.Call.{Call}
-use Rattle.consequence.specs.declared.Called.{Called}
+use Rattle.consequence.specs.Called.{Called}
 use Rattle.consequence.specs.declared.ConsequenceResult.{ConsequenceResult}
 use Rattle.terms.specs.Terms.{spill_terms}
 use Rattle.consequence.specs.Window.{Window, in_window, byte_at, coding_byte, coding_base}
 use Rattle.consequence.specs.Reading.{fetch_codon}
 use Rattle.consequence.specs.Answer.{place_result}
+use Rattle.codon.specs.declared.Codon.{Codon}
 
 abbrev pub add_splice_spill : SpliceSpill → ConsequenceResult → ConsequenceResult
 add_splice_spill s a = record {
@@ -50,15 +51,15 @@ abbrev pub call_place : Ranges → Transcript → Call → VariantLocation
 call_place r t q = locate r (oriented t) (orient_base t.model.strand q.position)
 
 -- the codon that holds a padded offset, read through the window
-abbrev pub call_codon : Transcript → Window → ℕ → FetchedCodon
+abbrev pub call_codon : Transcript → Window → ℕ → Option Codon
 call_codon t w k = fetch_codon (oriented t) (coding_base t.model.strand w) k
 
-abbrev pub is_outside : FetchedCodon → Bool
-is_outside (FetchedCodon.Bases c) = false
-is_outside FetchedCodon.OutsideWindow = true
+abbrev pub is_outside : Option Codon → Bool
+is_outside (Some c) = false
+is_outside None = true
 
 -- the place is coding and a base of its codon lies outside the window
-abbrev pub lacks_codon : (ℕ → FetchedCodon) → VariantLocation → Bool
+abbrev pub lacks_codon : (ℕ → Option Codon) → VariantLocation → Bool
 lacks_codon codon place = is_cds_exon place && is_outside (codon (place_offset place))
 
 -- alt not A, C, G, T, or equal to ref
@@ -94,5 +95,4 @@ call_result r t w q =
 
 -- the whole answer to a call
 unfoldable pub annotate_snv : Ranges → Transcript → Window → Call → Called
-annotate_snv r t w q =
-    cond (eqb (call_refusal r t w q) 0) (Called.Answered (call_result r t w q)) (Called.Refused (call_refusal r t w q))
+annotate_snv r t w q = outcome (call_refusal r t w q) (call_result r t w q)

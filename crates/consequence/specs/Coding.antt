@@ -1,5 +1,5 @@
 -- What a coding base's codon shows.
-use Rattle.std.specs.Prelude.{ℕ, Bool, cond, not, ◌&&◌, ◌||◌, eqb, ltb}
+use Rattle.std.specs.Prelude.{ℕ, Bool, cond, not, ◌&&◌, ◌||◌, eqb, ltb, Option, Some, None}
 use Rattle.common.specs.Text.{byte}
 use Rattle.codon.specs.declared.AminoAcids.{AminoAcids}
 use Rattle.codon.specs.Display.{letters_of}
@@ -19,7 +19,7 @@ abbrev pub shows_codon : Oriented → ℕ → ℕ → Bool
 shows_codon t number ref = is_padded_codon t number || not (eqb ref (byte "X"))
 
 -- the letters are shown where both are known; a padded codon shows X
-unfoldable pub shown_letters : Oriented → ℕ → ℕ → ℕ → AminoAcids
+unfoldable pub shown_letters : Oriented → ℕ → ℕ → ℕ → Option AminoAcids
 shown_letters t number ref alt =
-    cond (not (unknown_letter ref alt)) (letters_of ref alt)
-    (cond (is_padded_codon t number) (AminoAcids.One (byte "X")) AminoAcids.Absent)
+    cond (not (unknown_letter ref alt)) (Some (letters_of ref alt))
+    (cond (is_padded_codon t number) (Some (AminoAcids.One (byte "X"))) None)

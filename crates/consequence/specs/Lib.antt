@@ -1,3 +1,4 @@
+pub mod Called
 pub mod Window
 pub mod Reading
 pub mod Coding

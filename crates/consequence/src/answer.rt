@@ -4,8 +4,7 @@ ghost use Rattle.transcript.specs.Orient.{Oriented};
 ghost use Rattle.consequence.specs.Answer.{flank_result, intron_result};
 ghost use Rattle.consequence.specs.Call.{add_splice_spill};
 
-use super::{CdnaCounted, ConsequenceResult, Counted, Numbered};
-use codon::{AminoAcids, Codons};
+use super::{ConsequenceResult, Numbered};
 use footprint::SpliceSpill;
 use locate::VariantLocation;
 use terms::{TermSet, spill_terms};
@@ -16,13 +15,13 @@ pub(crate) fn flank_result(place: VariantLocation, terms: TermSet) -> Consequenc
 {
     ConsequenceResult {
         location: place,
-        exon: Numbered::Absent,
-        intron: Numbered::Absent,
-        cds_position: Counted::Absent,
-        cdna_position: CdnaCounted::Absent,
-        protein_start: Counted::Absent,
-        codons: Codons::Absent,
-        amino_acids: AminoAcids::Absent,
+        exon: None,
+        intron: None,
+        cds_position: None,
+        cdna_position: None,
+        protein_start: None,
+        codons: None,
+        amino_acids: None,
         consequences: terms,
     }
 }
@@ -41,16 +40,16 @@ pub(crate) fn intron_result(
 {
     ConsequenceResult {
         location: place,
-        exon: Numbered::Absent,
-        intron: Numbered::Of {
+        exon: None,
+        intron: Some(Numbered {
             number: i + 1,
             total: exons - 1,
-        },
-        cds_position: Counted::Absent,
-        cdna_position: CdnaCounted::Absent,
-        protein_start: Counted::Absent,
-        codons: Codons::Absent,
-        amino_acids: AminoAcids::Absent,
+        }),
+        cds_position: None,
+        cdna_position: None,
+        protein_start: None,
+        codons: None,
+        amino_acids: None,
         consequences: terms,
     }
 }
@@ -59,24 +58,8 @@ pub(crate) fn intron_result(
 pub(crate) fn add_splice_spill(s: SpliceSpill, a: ConsequenceResult) -> ConsequenceResult
     ensures { result ≡ add_splice_spill s a }
 {
-    let location = a.location;
-    let exon = a.exon;
-    let intron = a.intron;
-    let cds_position = a.cds_position;
-    let cdna_position = a.cdna_position;
-    let protein_start = a.protein_start;
-    let codons = a.codons;
-    let amino_acids = a.amino_acids;
-    let consequences = spill_terms(s.donor, s.acceptor, a.consequences);
     ConsequenceResult {
-        location,
-        exon,
-        intron,
-        cds_position,
-        cdna_position,
-        protein_start,
-        codons,
-        amino_acids,
-        consequences,
+        consequences: spill_terms(s.donor, s.acceptor, a.consequences),
+        ..a
     }
 }

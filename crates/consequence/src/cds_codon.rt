@@ -2,7 +2,7 @@
 ghost use Rattle.std.specs.Prelude.{◌≡◌, Bool, List, ℕ, ◌<◌, ◌≤◌, length, get_or};
 ghost use Rattle.codon.specs.code.Letters.{AlteredLetters};
 ghost use Rattle.transcript.specs.Orient.{Oriented};
-ghost use Rattle.transcript.specs.code.Lent.{lent_exons};
+ghost use Rattle.transcript.specs.code.Lent.{oriented_in};
 ghost use Rattle.locate.specs.declared.VariantLocation.{VariantLocation};
 ghost use Rattle.common.specs.Stored.{filled};
 ghost use Rattle.locate.specs.Index.{selenocysteine_codons, index_scalars};
@@ -11,31 +11,23 @@ ghost use Rattle.consequence.specs.Reading.{fetch_codon};
 ghost use Rattle.consequence.specs.code.AtPlace.{coding_called, columns_called};
 ghost use Rattle.consequence.specs.code.Segments.{Segments};
 
-use super::FetchedCodon;
 use super::columns::{CodonColumns, read_codon};
 use super::letters::{is_padded_codon, is_start_codon};
 use super::reading::{fetch_ref_codon, is_incomplete_terminal_codon};
 use super::selenocysteine::holds_selenocysteine;
 use super::window::coding_byte;
 use locate::{CdsOffset, IndexScalars};
-use transcript::Strand;
+use transcript::{Intervals, Strand};
 
-// What the codon of a coding base gives, unless it is not all in the window.
-#[derive(Clone, Copy)]
-pub enum CdsCodon {
-    Read(CodonColumns),
-    OutsideWindow,
-}
-
-// The codon of that number at a padded offset, with `alt_base` put in at that place in it, by the letters of a genetic code.
+// What the codon of that number at a padded offset gives, unless it is not all in the window, with `alt_base` put in at that place in it,
+// by the letters of a genetic code.
 // Segment `near` may hold the offset.
 pub fn read_cds_codon(
     letters: &[u8],
     scalars: IndexScalars,
     start_complete: bool,
     strand: Strand,
-    starts: &[u64],
-    ends: &[u64],
+    intervals: Intervals,
     sums: &[u32],
     codons: &[u32; 64],
     first: u64,
@@ -45,11 +37,11 @@ pub fn read_cds_codon(
     offset: CdsOffset,
     number: u32,
     position: u8,
-) -> CdsCodon
+) -> Option<CodonColumns>
     requires in_bounds { 768 ≤ length letters.now }
-    requires segments { Segments strand starts.now ends.now sums.now scalars.cds_start_pad }
-    requires segment_count_value { (scalars.segment_count ≡ length starts.now)
-        × (scalars.total_cds_length ≡ get_or sums.now (length starts.now) 0)
+    requires segments { Segments strand intervals.starts.now intervals.ends.now sums.now scalars.cds_start_pad }
+    requires segment_count_value { (scalars.segment_count ≡ length intervals.starts.now)
+        × (scalars.total_cds_length ≡ get_or sums.now (length intervals.starts.now) 0)
         × (offset.0 < scalars.total_cds_length) }
     requires selenocysteine_count_bound { (scalars.selenocysteine_count ≤ 64) × (scalars.selenocysteine_count ≤ length codons.now) }
     ensures { let base = coding_base strand (window_from first bytes.now) in
@@ -57,19 +49,16 @@ pub fn read_cds_codon(
         → AlteredLetters table letters.now
         → scalars ≡ index_scalars t
         → t.start_complete ≡ start_complete
-        → t.segments ≡ lent_exons strand starts.now ends.now
+        → t.segments ≡ oriented_in strand intervals.entry
         → codons.now ≡ filled 64 (selenocysteine_codons t)
         → (p : ℕ) (place : VariantLocation) (i : ℕ) (mark : Bool)
         → columns_called t p place i offset number position mark result
         ≡ coding_called table t p (coding_byte strand alt_base) place i offset number position mark (fetch_codon t base offset.0)) }
 {
-    let codon = fetch_ref_codon(
-        scalars, strand, starts, ends, sums, first, bytes, near, offset.0,
-    );
-    let FetchedCodon::Bases(c) = codon else {
-        return CdsCodon::OutsideWindow;
-    };
-    CdsCodon::Read(read_codon(
+    let c = fetch_ref_codon(
+        scalars, strand, intervals, sums, first, bytes, near, offset.0,
+    )?;
+    Some(read_codon(
         letters,
         is_start_codon(scalars.cds_start_pad, start_complete, number),
         is_padded_codon(scalars.cds_start_pad, number),

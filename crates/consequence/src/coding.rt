@@ -3,7 +3,7 @@ ghost use Rattle.std.specs.Prelude.{◌≡◌, List, ℕ, ◌-◌, ◌+◌, ◌<
 ghost use Rattle.codon.specs.code.Letters.{AlteredLetters};
 ghost use Rattle.transcript.specs.Limits.{top};
 ghost use Rattle.transcript.specs.Orient.{Oriented};
-ghost use Rattle.transcript.specs.code.Lent.{lent_exons};
+ghost use Rattle.transcript.specs.code.Lent.{oriented_in};
 ghost use Rattle.locate.specs.Place.{cdna_position};
 ghost use Rattle.common.specs.Stored.{filled};
 ghost use Rattle.locate.specs.Index.{selenocysteine_codons, index_scalars};
@@ -13,11 +13,12 @@ ghost use Rattle.consequence.specs.code.AtPlace.{coding_called};
 ghost use Rattle.consequence.specs.code.Segments.{Segments};
 
 use super::Called;
-use super::cds_codon::{CdsCodon, read_cds_codon};
+use super::cds_codon::read_cds_codon;
 use super::exonic::coding_result;
 use super::region::with_mark;
+use common::refusal::Refusal;
 use locate::{CdsOffset, IndexScalars, VariantLocation, cdna_position};
-use transcript::Strand;
+use transcript::{Intervals, Strand};
 
 // The segment of exon i, where `first` is the first coding exon.
 fn near_segment(i: u16, first: u16) -> usize
@@ -38,8 +39,7 @@ pub(crate) fn annotate_cds_snv(
     scalars: IndexScalars,
     start_complete: bool,
     strand: Strand,
-    starts: &[u64],
-    ends: &[u64],
+    intervals: Intervals,
     sums: &[u32],
     codons: &[u32; 64],
     first: u64,
@@ -52,9 +52,9 @@ pub(crate) fn annotate_cds_snv(
     mark: bool,
 ) -> Called
     requires in_bounds { 768 ≤ length letters.now }
-    requires segments { Segments strand starts.now ends.now sums.now scalars.cds_start_pad }
-    requires segment_count_value { (scalars.segment_count ≡ length starts.now)
-        × (scalars.total_cds_length ≡ get_or sums.now (length starts.now) 0)
+    requires segments { Segments strand intervals.starts.now intervals.ends.now sums.now scalars.cds_start_pad }
+    requires segment_count_value { (scalars.segment_count ≡ length intervals.starts.now)
+        × (scalars.total_cds_length ≡ get_or sums.now (length intervals.starts.now) 0)
         × (offset.0 < scalars.total_cds_length) }
     requires selenocysteine_count_bound { (scalars.selenocysteine_count ≤ 64) × (scalars.selenocysteine_count ≤ length codons.now) }
     requires i_bound { (i < 65535)
@@ -67,7 +67,7 @@ pub(crate) fn annotate_cds_snv(
         → length t.exons ≡ exons
         → scalars ≡ index_scalars t
         → t.start_complete ≡ start_complete
-        → t.segments ≡ lent_exons strand starts.now ends.now
+        → t.segments ≡ oriented_in strand intervals.entry
         → codons.now ≡ filled 64 (selenocysteine_codons t)
         → cdna_position t p ≡ scalars.utr5_exonic_len + (offset.0 - scalars.cds_start_pad) + 1
         → result ≡ coding_called table t p (coding_byte strand alt_base)
@@ -78,8 +78,7 @@ pub(crate) fn annotate_cds_snv(
         scalars,
         start_complete,
         strand,
-        starts,
-        ends,
+        intervals,
         sums,
         codons,
         first,
@@ -90,12 +89,12 @@ pub(crate) fn annotate_cds_snv(
         number,
         position,
     );
-    let CdsCodon::Read(columns) = read else {
-        return Called::Refused(21);
+    let Some(columns) = read else {
+        return Err(Refusal::CodonOutsideWindow);
     };
     let cdna = cdna_position(scalars.utr5_exonic_len, scalars.cds_start_pad, offset);
     let terms = with_mark(columns.terms, mark);
-    Called::Answered(coding_result(
+    Ok(coding_result(
         place, exons, i, offset, number, position, cdna, columns, terms,
     ))
 }

@@ -12,13 +12,13 @@ use super::letters::{shown_letters, shows_codon};
 use codon::{AminoAcids, Codon, build_alt_codon, translate_codons};
 use terms::{Consequence, TermSet, coding_term};
 
-// Codon number and codons are shown or not; an answer has them as enums, which cost moves where they are handed on.
+// Codon number and codons are shown or not; an answer has them as options, which cost moves where they are handed on.
 #[derive(Clone, Copy)]
 pub struct CodonColumns {
     pub shown: bool,
     pub reference: Codon,
     pub altered: Codon,
-    pub letters: AminoAcids,
+    pub letters: Option<AminoAcids>,
     pub terms: TermSet,
 }
 
@@ -32,7 +32,7 @@ fn incomplete_codon(c: Codon, altered: Codon) -> CodonColumns
         shown: true,
         reference: c,
         altered,
-        letters: AminoAcids::One(b'X'),
+        letters: Some(AminoAcids::One(b'X')),
         terms,
     }
 }

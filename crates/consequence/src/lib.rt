@@ -24,18 +24,20 @@ mod window;
 
 pub use admitted::annotate_admitted;
 pub use cdna::cdna_count;
-pub use cds_codon::{CdsCodon, read_cds_codon};
+pub use cds_codon::read_cds_codon;
 pub use code::call_letters;
-use codon::{AminoAcids, Codon, Codons};
+use codon::{AminoAcids, Codons};
 pub use columns::CodonColumns;
+use common::refusal::Refusal;
 use locate::{CdnaPosition, VariantLocation};
 pub use placed::annotate_placed;
-pub use refusal::opening_refusal;
+pub use refusal::judge_opening;
 pub use region::with_mark;
 pub use snv::annotate_snv;
 pub use spill::spill_at;
 pub use summed::annotate_summed;
 use terms::TermSet;
+pub use window::base_at;
 
 #[derive(Clone, Copy)]
 pub struct Call {
@@ -45,56 +47,26 @@ pub struct Call {
     pub alt_base: u8,
 }
 
-// A base read through the window.
-#[derive(Clone, Copy)]
-pub enum FetchedBase {
-    Base(u8),
-    OutsideWindow,
-}
-
-#[derive(Clone, Copy)]
-pub enum FetchedCodon {
-    Bases(Codon),
-    OutsideWindow,
-}
-
 // An exon or intron number k of n.
-#[derive(Clone, Copy)]
-pub enum Numbered {
-    Absent,
-    Of { number: u16, total: u16 },
+#[derive(Clone, Copy, PartialEq, Eq, Debug)]
+pub struct Numbered {
+    pub number: u16,
+    pub total: u16,
 }
 
-// A position or number that counts from 1.
-#[derive(Clone, Copy)]
-pub enum Counted {
-    Absent,
-    At(u32),
-}
-
-// A cDNA position: no padded offset can stand here.
-#[derive(Clone, Copy)]
-pub enum CdnaCounted {
-    Absent,
-    At(CdnaPosition),
-}
-
-// The whole answer to a call.
+// The whole answer to a call; positions and numbers count from 1.
 #[derive(Clone, Copy)]
 pub struct ConsequenceResult {
     pub location: VariantLocation,
-    pub exon: Numbered,
-    pub intron: Numbered,
-    pub cds_position: Counted,
-    pub cdna_position: CdnaCounted,
-    pub protein_start: Counted,
-    pub codons: Codons,
-    pub amino_acids: AminoAcids,
+    pub exon: Option<Numbered>,
+    pub intron: Option<Numbered>,
+    pub cds_position: Option<u32>,
+    pub cdna_position: Option<CdnaPosition>,
+    pub protein_start: Option<u32>,
+    pub codons: Option<Codons>,
+    pub amino_acids: Option<AminoAcids>,
     pub consequences: TermSet,
 }
 
-#[derive(Clone, Copy)]
-pub enum Called {
-    Answered(ConsequenceResult),
-    Refused(u8),
-}
+// The answer to a call, or its refusal.
+pub type Called = Result<ConsequenceResult, Refusal>;

@@ -1,7 +1,7 @@
 // The answer at a place, before the splice spill.
 ghost use Rattle.std.specs.Prelude.{◌≡◌};
 ghost use Rattle.codon.specs.code.Letters.{AlteredLetters};
-ghost use Rattle.transcript.specs.Transcript.{given, was_given};
+ghost use Rattle.transcript.specs.Transcript.{transcript_of};
 ghost use Rattle.transcript.specs.Orient.{oriented};
 ghost use Rattle.locate.specs.Place.{locate};
 ghost use Rattle.consequence.specs.Window.{window_from, coding_byte};
@@ -15,10 +15,11 @@ use super::cdna::compute_cdna_position_exonic;
 use super::coding::annotate_cds_snv;
 use super::exonic::exon_result;
 use super::region::{Region, region_of, with_mark};
+use common::refusal::Refusal;
 use footprint::Ranges;
 use locate::{IndexScalars, VariantLocation};
 use terms::TermSet;
-use transcript::TranscriptModel;
+use transcript::Transcript;
 
 // `place` is that of p, an oriented base, and `alt_base` is put in there. Refusals 19 and 21.
 pub(crate) fn annotate_place(
@@ -27,14 +28,7 @@ pub(crate) fn annotate_place(
     first: u64,
     bytes: &[u8],
     alt_base: u8,
-    model: TranscriptModel,
-    exon_starts: &[u64],
-    exon_ends: &[u64],
-    seg_phases: &[u8],
-    seg_exons: &[u16],
-    seg_starts: &[u64],
-    seg_ends: &[u64],
-    selenocysteine: &[u64],
+    transcript: &Transcript,
     scalars: IndexScalars,
     cumulative_exons: &[u32],
     cumulative_cds: &[u32],
@@ -42,37 +36,33 @@ pub(crate) fn annotate_place(
     place: VariantLocation,
     p: u64,
 ) -> Called
-    requires fact_1 { let t = given model exon_starts exon_ends seg_phases seg_exons seg_starts seg_ends selenocysteine in
-        Prepared t scalars cumulative_exons.now cumulative_cds.now selenocysteine_codons.now }
-    requires fact_2 { let t = given model exon_starts exon_ends seg_phases seg_exons seg_starts seg_ends selenocysteine in
-        place ≡ locate ranges (oriented t) p }
-    requires fact_3 { let t = given model exon_starts exon_ends seg_phases seg_exons seg_starts seg_ends selenocysteine in
-        AlteredLetters (call_table t) letters.now }
-    ensures { let t = was_given model exon_starts exon_ends seg_phases seg_exons seg_starts seg_ends selenocysteine in
+    requires prepared { Prepared (transcript_of transcript.now) scalars cumulative_exons.now cumulative_cds.now selenocysteine_codons.now }
+    requires located { place ≡ locate ranges (oriented (transcript_of transcript.now)) p }
+    requires letters { AlteredLetters (call_table (transcript_of transcript.now)) letters.now }
+    ensures { let t = transcript_of transcript.now in
         let w = window_from first bytes.now in
-        result ≡ place_called (call_table t) (oriented t) p (coding_byte model.strand alt_base) (call_codon t w) place }
+        result ≡ place_called (call_table t) (oriented t) p (coding_byte transcript.now.model.strand alt_base) (call_codon t w) place }
 {
-    let exons = model.exon_count;
-    let strand = model.strand;
-    let region = region_of(place, 0 < seg_starts.len());
+    let exons = transcript.model.exon_count;
+    let strand = transcript.model.strand;
+    let region = region_of(place, 0 < transcript.segments.bases.starts.len());
     match region {
-        Region::Distal => Called::Refused(19),
-        Region::Flank { term } => Called::Answered(flank_result(place, TermSet::of(term))),
+        Region::Distal => Err(Refusal::Distal),
+        Region::Flank { term } => Ok(flank_result(place, TermSet::of(term))),
         Region::Intron { index, term, mark } => {
             let terms = with_mark(TermSet::of(term), mark);
-            Called::Answered(intron_result(place, exons, index, terms))
+            Ok(intron_result(place, exons, index, terms))
         }
         Region::Exon { index, term, mark } => {
             let cdna = compute_cdna_position_exonic(
-                exon_starts,
-                exon_ends,
+                transcript.exons,
                 strand,
                 cumulative_exons,
                 index as usize,
                 p,
             );
             let terms = with_mark(TermSet::of(term), mark);
-            Called::Answered(exon_result(place, exons, index, cdna, terms))
+            Ok(exon_result(place, exons, index, cdna, terms))
         }
         Region::Coding {
             index,
@@ -85,10 +75,9 @@ pub(crate) fn annotate_place(
             place,
             exons,
             scalars,
-            model.cds_start_complete,
+            transcript.model.cds_start_complete,
             strand,
-            seg_starts,
-            seg_ends,
+            transcript.segments.bases,
             cumulative_cds,
             selenocysteine_codons,
             first,

@@ -2,7 +2,7 @@
 ghost use Rattle.std.specs.Prelude.{◌≡◌, ◌≤◌};
 ghost use Rattle.codon.specs.code.Letters.{AlteredLetters};
 ghost use Rattle.transcript.specs.Limits.{top};
-ghost use Rattle.transcript.specs.Transcript.{given, was_given};
+ghost use Rattle.transcript.specs.Transcript.{transcript_of};
 ghost use Rattle.transcript.specs.Orient.{oriented};
 ghost use Rattle.locate.specs.Place.{locate};
 ghost use Rattle.consequence.specs.Window.{window_from, coding_byte};
@@ -16,7 +16,7 @@ use super::place::annotate_place;
 use super::spill::spill_at;
 use footprint::Ranges;
 use locate::{IndexScalars, VariantLocation};
-use transcript::TranscriptModel;
+use transcript::Transcript;
 
 // `place` is that of p, an oriented base, and `alt_base` is put in there. Refusals 19 and 21.
 pub fn annotate_placed(
@@ -25,14 +25,7 @@ pub fn annotate_placed(
     first: u64,
     bytes: &[u8],
     alt_base: u8,
-    model: TranscriptModel,
-    exon_starts: &[u64],
-    exon_ends: &[u64],
-    seg_phases: &[u8],
-    seg_exons: &[u16],
-    seg_starts: &[u64],
-    seg_ends: &[u64],
-    selenocysteine: &[u64],
+    transcript: &Transcript,
     scalars: IndexScalars,
     cumulative_exons: &[u32],
     cumulative_cds: &[u32],
@@ -40,50 +33,34 @@ pub fn annotate_placed(
     place: VariantLocation,
     p: u64,
 ) -> Called
-    requires fact_1 { let t = given model exon_starts exon_ends seg_phases seg_exons seg_starts seg_ends selenocysteine in
-        Prepared t scalars cumulative_exons.now cumulative_cds.now selenocysteine_codons.now }
-    requires fact_2 { let t = given model exon_starts exon_ends seg_phases seg_exons seg_starts seg_ends selenocysteine in
-        place ≡ locate ranges (oriented t) p }
-    requires fact_3 { let t = given model exon_starts exon_ends seg_phases seg_exons seg_starts seg_ends selenocysteine in
-        AlteredLetters (call_table t) letters.now }
-    requires fact_4 { let t = given model exon_starts exon_ends seg_phases seg_exons seg_starts seg_ends selenocysteine in
-        p ≤ top }
-    ensures { let t = was_given model exon_starts exon_ends seg_phases seg_exons seg_starts seg_ends selenocysteine in
+    requires prepared { Prepared (transcript_of transcript.now) scalars cumulative_exons.now cumulative_cds.now selenocysteine_codons.now }
+    requires located { place ≡ locate ranges (oriented (transcript_of transcript.now)) p }
+    requires letters { AlteredLetters (call_table (transcript_of transcript.now)) letters.now }
+    requires low { p ≤ top }
+    ensures { let t = transcript_of transcript.now in
         let w = window_from first bytes.now in
-        let x = place_called (call_table t) (oriented t) p (coding_byte model.strand alt_base) (call_codon t w) place in
+        let x = place_called (call_table t) (oriented t) p (coding_byte transcript.now.model.strand alt_base) (call_codon t w) place in
         result ≡ spilled (spill_at (oriented t) p) x }
 {
-    let placed = annotate_place(
+    let result = annotate_place(
         ranges,
         letters,
         first,
         bytes,
         alt_base,
-        model,
-        exon_starts,
-        exon_ends,
-        seg_phases,
-        seg_exons,
-        seg_starts,
-        seg_ends,
-        selenocysteine,
+        transcript,
         scalars,
         cumulative_exons,
         cumulative_cds,
         selenocysteine_codons,
         place,
         p,
-    );
-    let Called::Answered(result) = placed else {
-        return placed;
-    };
-    let strand = model.strand;
+    )?;
     let spill = spill_at(
         scalars.has_frameshift_intron,
-        exon_starts,
-        exon_ends,
-        strand,
+        transcript.exons,
+        transcript.model.strand,
         p,
     );
-    Called::Answered(add_splice_spill(spill, result))
+    Ok(add_splice_spill(spill, result))
 }

@@ -3,18 +3,16 @@ ghost use Rattle.std.specs.Prelude.{◌≡◌, ◌+◌, ◌-◌, ◌<◌, ◌≤
 ghost use Rattle.transcript.specs.Limits.{coordinate_limit};
 ghost use Rattle.transcript.specs.Orient.{Oriented, orient, orient_base};
 ghost use Rattle.locate.specs.Place.{total_cds_length};
-ghost use Rattle.transcript.specs.code.Lent.{lent_exons};
-ghost use Rattle.consequence.specs.declared.FetchedCodon.{FetchedCodon};
+ghost use Rattle.transcript.specs.code.Lent.{oriented_in};
 ghost use Rattle.consequence.specs.Window.{window_from, coding_base};
 ghost use Rattle.consequence.specs.Reading.{cds_base, incomplete_at, length_at, fetch_codon};
 ghost use Rattle.consequence.specs.code.Segments.{Segments, Held};
 
 use super::segment::{next_segment, segment_near};
 use super::window::coding_base_at;
-use super::{FetchedBase, FetchedCodon};
 use codon::Codon;
 use locate::IndexScalars;
-use transcript::Strand;
+use transcript::{Intervals, Strand};
 
 // Base d of [s, e) in strand order, as a coordinate.
 fn nth_base(strand: Strand, s: u64, e: u64, d: u64) -> u64
@@ -31,27 +29,26 @@ fn nth_base(strand: Strand, s: u64, e: u64, d: u64) -> u64
 fn cds_base(
     pad: u32,
     strand: Strand,
-    starts: &[u64],
-    ends: &[u64],
+    intervals: Intervals,
     sums: &[u32],
     i: usize,
     first: u64,
     bytes: &[u8],
     k: u32,
-) -> FetchedBase
-    requires segments { Segments strand starts.now ends.now sums.now pad }
-    requires held { Held sums.now (length starts.now) k i }
+) -> Option<u8>
+    requires segments { Segments strand intervals.starts.now intervals.ends.now sums.now pad }
+    requires held { Held sums.now (length intervals.starts.now) k i }
     ensures { let base = coding_base strand (window_from first bytes.now) in
         ((t : Oriented)
         → t.pad ≡ pad
-        → t.segments ≡ lent_exons strand starts.now ends.now
+        → t.segments ≡ oriented_in strand intervals.entry
         → result ≡ cds_base t base k) }
 {
     if k < pad {
-        return FetchedBase::Base(b'N');
+        return Some(b'N');
     }
-    let s = starts[i];
-    let e = ends[i];
+    let s = intervals.starts[i];
+    let e = intervals.ends[i];
     let d = k - sums[i];
     let p = nth_base(strand, s, e, d as u64);
     coding_base_at(strand, first, bytes, p)
@@ -78,15 +75,15 @@ fn codon_length(total: u32, k: u32) -> u8
     3
 }
 
-fn codon_of(len: u8, first: u8, second: u8, third: u8) -> FetchedCodon
-    ensures { result ≡ FetchedCodon.Bases (record { len = len; first = first; second = second; third = third }) }
+fn codon_of(len: u8, first: u8, second: u8, third: u8) -> Codon
+    ensures { result ≡ record { len = len; first = first; second = second; third = third } }
 {
-    FetchedCodon::Bases(Codon {
+    Codon {
         len,
         first,
         second,
         third,
-    })
+    }
 }
 
 // The codon that holds padded offset k: its bases, unless one lies outside the window. Segment `near` may hold k; if it does, no search
@@ -94,21 +91,20 @@ fn codon_of(len: u8, first: u8, second: u8, third: u8) -> FetchedCodon
 pub(crate) fn fetch_ref_codon(
     scalars: IndexScalars,
     strand: Strand,
-    starts: &[u64],
-    ends: &[u64],
+    intervals: Intervals,
     sums: &[u32],
     first: u64,
     bytes: &[u8],
     near: usize,
     k: u32,
-) -> FetchedCodon
-    requires segments { Segments strand starts.now ends.now sums.now scalars.cds_start_pad }
-    requires segment_count_value { scalars.segment_count ≡ length starts.now }
-    requires total_cds_length_value { (scalars.total_cds_length ≡ get_or sums.now (length starts.now) 0) × (k < scalars.total_cds_length) }
+) -> Option<Codon>
+    requires segments { Segments strand intervals.starts.now intervals.ends.now sums.now scalars.cds_start_pad }
+    requires segment_count_value { scalars.segment_count ≡ length intervals.starts.now }
+    requires total_cds_length_value { (scalars.total_cds_length ≡ get_or sums.now (length intervals.starts.now) 0) × (k < scalars.total_cds_length) }
     ensures { let base = coding_base strand (window_from first bytes.now) in
         ((t : Oriented)
         → t.pad ≡ scalars.cds_start_pad
-        → t.segments ≡ lent_exons strand starts.now ends.now
+        → t.segments ≡ oriented_in strand intervals.entry
         → total_cds_length t ≡ scalars.total_cds_length
         → result ≡ fetch_codon t base k) }
 {
@@ -116,25 +112,16 @@ pub(crate) fn fetch_ref_codon(
     let len = codon_length(scalars.total_cds_length, k);
     let from = k - k % 3;
     let i = segment_near(sums, scalars.segment_count, near, from);
-    let FetchedBase::Base(x) = cds_base(pad, strand, starts, ends, sums, i, first, bytes, from)
-    else {
-        return FetchedCodon::OutsideWindow;
-    };
+    let x = cds_base(pad, strand, intervals, sums, i, first, bytes, from)?;
     if len < 2 {
-        return codon_of(len, x, 0, 0);
+        return Some(codon_of(len, x, 0, 0));
     }
     let j = next_segment(sums, i, from + 1);
-    let FetchedBase::Base(y) = cds_base(pad, strand, starts, ends, sums, j, first, bytes, from + 1)
-    else {
-        return FetchedCodon::OutsideWindow;
-    };
+    let y = cds_base(pad, strand, intervals, sums, j, first, bytes, from + 1)?;
     if len < 3 {
-        return codon_of(len, x, y, 0);
+        return Some(codon_of(len, x, y, 0));
     }
     let l = next_segment(sums, j, from + 2);
-    let FetchedBase::Base(z) = cds_base(pad, strand, starts, ends, sums, l, first, bytes, from + 2)
-    else {
-        return FetchedCodon::OutsideWindow;
-    };
-    codon_of(len, x, y, z)
+    let z = cds_base(pad, strand, intervals, sums, l, first, bytes, from + 2)?;
+    Some(codon_of(len, x, y, z))
 }

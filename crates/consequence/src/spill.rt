@@ -4,49 +4,49 @@ ghost use Rattle.common.specs.Lists.{any};
 ghost use Rattle.transcript.specs.Limits.{top};
 ghost use Rattle.transcript.specs.Orient.{interval, Oriented};
 ghost use Rattle.transcript.specs.Bases.{gaps};
-ghost use Rattle.transcript.specs.code.Lent.{lent_exons};
-ghost use Rattle.footprint.specs.code.Lent.{lent_gaps};
+ghost use Rattle.transcript.specs.code.Lent.{oriented_in};
+ghost use Rattle.footprint.specs.code.Lent.{gaps_in};
 ghost use Rattle.footprint.specs.ShortIntron.{is_frameshift_gap, donor_window, acceptor_window, spills_into, exonic_splice_spill};
 ghost use Rattle.locate.specs.code.Search.{Ready, Started};
 
 use footprint::{SpliceSpill, acceptor_spill, donor_spill};
 use locate::started;
-use transcript::Strand;
+use transcript::{Intervals, Strand};
 
 // Whether p, an oriented base, hits a donor window; n exons start at or before it.
-fn hits_donor(starts: &[u64], ends: &[u64], strand: Strand, n: usize, p: u64) -> bool
-    requires ready { Ready strand starts.now ends.now }
-    requires n_in_bounds { (n ≤ length starts.now) × Started (lent_exons strand starts.now ends.now) p n }
-    ensures { result ≡ any (spills_into donor_window (interval p (p + 1))) (lent_gaps strand starts.now ends.now) }
+fn hits_donor(intervals: Intervals, strand: Strand, n: usize, p: u64) -> bool
+    requires ready { Ready strand intervals.starts.now intervals.ends.now }
+    requires n_in_bounds { (n ≤ length intervals.starts.now) × Started (oriented_in strand intervals) p n }
+    ensures { result ≡ any (spills_into donor_window (interval p (p + 1))) (gaps_in strand intervals.entry) }
 {
     if n < 2 {
         return false;
     }
-    donor_spill(starts, ends, strand, n - 2, p)
+    donor_spill(intervals, strand, n - 2, p)
 }
 
 // Whether p hits an acceptor window.
-fn hits_acceptor(starts: &[u64], ends: &[u64], strand: Strand, n: usize, p: u64) -> bool
-    requires ready { Ready strand starts.now ends.now }
-    requires n_in_bounds { (n ≤ length starts.now) × Started (lent_exons strand starts.now ends.now) p n }
+fn hits_acceptor(intervals: Intervals, strand: Strand, n: usize, p: u64) -> bool
+    requires ready { Ready strand intervals.starts.now intervals.ends.now }
+    requires n_in_bounds { (n ≤ length intervals.starts.now) × Started (oriented_in strand intervals) p n }
     requires p_le_top { p ≤ top }
-    ensures { result ≡ any (spills_into acceptor_window (interval p (p + 1))) (lent_gaps strand starts.now ends.now) }
+    ensures { result ≡ any (spills_into acceptor_window (interval p (p + 1))) (gaps_in strand intervals.entry) }
 {
     if n == 0 {
         return false;
     }
-    if n == starts.len() {
+    if n == intervals.starts.len() {
         return false;
     }
-    acceptor_spill(starts, ends, strand, n - 1, p)
+    acceptor_spill(intervals, strand, n - 1, p)
 }
 
 // The windows that p, an oriented base, hits. Without a short intron, `short`, there are none.
-pub fn spill_at(short: bool, starts: &[u64], ends: &[u64], strand: Strand, p: u64) -> SpliceSpill
-    requires ready { Ready strand starts.now ends.now }
+pub fn spill_at(short: bool, intervals: Intervals, strand: Strand, p: u64) -> SpliceSpill
+    requires ready { Ready strand intervals.starts.now intervals.ends.now }
     requires p_le_top { p ≤ top }
     ensures { (t : Oriented)
-        → t.exons ≡ lent_exons strand starts.now ends.now
+        → t.exons ≡ oriented_in strand intervals.entry
         → short ≡ any is_frameshift_gap (gaps t.exons)
         → result ≡ exonic_splice_spill t (interval p (p + 1)) }
 {
@@ -56,9 +56,9 @@ pub fn spill_at(short: bool, starts: &[u64], ends: &[u64], strand: Strand, p: u6
             acceptor: false,
         };
     }
-    let n = started(starts, ends, strand, p);
+    let n = started(intervals, strand, p);
     SpliceSpill {
-        donor: hits_donor(starts, ends, strand, n, p),
-        acceptor: hits_acceptor(starts, ends, strand, n, p),
+        donor: hits_donor(intervals, strand, n, p),
+        acceptor: hits_acceptor(intervals, strand, n, p),
     }
 }

@@ -2,22 +2,16 @@
 ghost use Rattle.std.specs.Prelude.{◌≡◌};
 ghost use Rattle.consequence.specs.Window.{window_from, base_at, coding_byte, coding_fetched};
 
-use super::FetchedBase;
 use codon::complement;
 use transcript::Strand;
 
 // The byte at a coordinate, as it stands.
-pub(crate) fn base_at(first: u64, bytes: &[u8], p: u64) -> FetchedBase
+#[tactic(auto, unfolding(crate::specs::Window::base_at))]
+pub fn base_at(first: u64, bytes: &[u8], p: u64) -> Option<u8>
     ensures { result ≡ base_at (window_from first bytes.now) p }
 {
-    if p < first {
-        return FetchedBase::OutsideWindow;
-    }
-    let i = p - first;
-    if i >= bytes.len() as u64 {
-        return FetchedBase::OutsideWindow;
-    }
-    FetchedBase::Base(bytes[i as usize])
+    let i = p.checked_sub(first)?;
+    bytes.get(i as usize).copied()
 }
 
 // A byte as the coding strand has it.
@@ -31,11 +25,9 @@ pub(crate) fn coding_byte(strand: Strand, b: u8) -> u8
 }
 
 // The byte at a coordinate, as the coding strand has it.
-pub(crate) fn coding_base_at(strand: Strand, first: u64, bytes: &[u8], p: u64) -> FetchedBase
+pub(crate) fn coding_base_at(strand: Strand, first: u64, bytes: &[u8], p: u64) -> Option<u8>
     ensures { result ≡ coding_fetched strand (base_at (window_from first bytes.now) p) }
 {
-    let FetchedBase::Base(b) = base_at(first, bytes, p) else {
-        return FetchedBase::OutsideWindow;
-    };
-    FetchedBase::Base(coding_byte(strand, b))
+    let b = base_at(first, bytes, p)?;
+    Some(coding_byte(strand, b))
 }

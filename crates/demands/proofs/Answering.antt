@@ -1,4 +1,5 @@
 -- The longer's answer, before refusals, is the shorter's, carried.
+use Rattle.std.proofs.Common.{Option}
 use Prim.Native.Nat.{ℕ, ◌+◌, ◌-◌, ◌<◌}
 use mathlib.Core.Path.{◌≡◌, refl}
 use mathlib.Core.Bool.{Bool, true, false, ◌&&◌, ◌||◌}
@@ -10,7 +11,6 @@ use Rattle.locate.specs.declared.VariantLocation.{VariantLocation}
 use Rattle.locate.specs.declared.VariantLocation.TheVariants.{Upstream, Downstream, Distal, FivePrimeUtr, CdsExon, ThreePrimeUtr, SpliceDonor, SpliceAcceptor, SpliceRegion, Intron, FrameshiftIntron, NonCodingExon, NonCodingIntron}
 use Rattle.transcript.specs.Orient.{Oriented}
 use Rattle.transcript.specs.Bases.{bases_in}
-use Rattle.consequence.specs.declared.FetchedCodon.{FetchedCodon}
 use Rattle.consequence.specs.Region.{with_mark}
 use Rattle.consequence.specs.Answer.{Columns, no_codon, flank_result, intron_result, exon_result, codon_columns, place_result}
 use Rattle.consequence.specs.Call.{add_splice_spill}
@@ -18,6 +18,7 @@ use Rattle.demands.specs.Carry.{Added, carry_place, gains_term, carry_result}
 use Rattle.demands.proofs.Alike.{Alike}
 use Rattle.demands.proofs.Codons.{same_columns}
 use Rattle.demands.proofs.SpliceTerms.{Keeps, keeps_five, keeps_three, keeps_noncoding, keeps_columns}
+use Rattle.codon.specs.declared.Codon.{Codon}
 
 -- outside the exons no term is gained
 no_gain : (m t : Bool) → (m && false && t) ≡ false
@@ -48,7 +49,7 @@ module _ (S L : Oriented) (a : Alike S L) (x : Added) (s : SpliceSpill) (p : ℕ
       let n : bases_in L.exons 0 p + 1 ≡ bases_in S.exons 0 p + 1 + x.bases5 = omega arith in
       rw (k, total, n, f m x.mark s)
 
-  pub result_carry : (code : List ℕ) (alt : ℕ) (codonL codonS : ℕ → FetchedCodon) → ((k : ℕ) → codonL k ≡ codonS k) → (place : VariantLocation)
+  pub result_carry : (code : List ℕ) (alt : ℕ) (codonL codonS : ℕ → Option Codon) → ((k : ℕ) → codonL k ≡ codonS k) → (place : VariantLocation)
       → add_splice_spill s (place_result code L p alt codonL (carry_place x place)) ≡ carry_result x (add_splice_spill s (place_result code S p alt codonS place))
   unfolding place_result carry_place
   result_carry code alt u v e (Upstream d) = flank_carry x s (Upstream d) _

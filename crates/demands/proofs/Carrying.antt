@@ -1,11 +1,12 @@
 -- Carried answers: their tests, and what they keep.
+use Rattle.std.specs.Prelude.{Result}
 use mathlib.Core.Path.{◌≡◌, refl}
 use mathlib.Core.Bool.{Bool, true, false, cond}
 use Rattle.locate.specs.declared.VariantLocation.{VariantLocation}
 use Rattle.locate.specs.declared.VariantLocation.TheVariants.{Upstream, Downstream, Distal, FivePrimeUtr, CdsExon, ThreePrimeUtr, SpliceDonor, SpliceAcceptor, SpliceRegion, Intron, FrameshiftIntron, NonCodingExon, NonCodingIntron}
-use Rattle.locate.specs.declared.Located.{Located}
+use Rattle.common.specs.declared.refusal.Refusal.{Refusal}
 use Rattle.locate.specs.PlaceKind.{place_kind, place_offset}
-use Rattle.consequence.specs.declared.Called.{Called}
+use Rattle.consequence.specs.Called.{Called}
 use Rattle.demands.specs.Carry.{Added, carry_place, carry_located, carry_called}
 
 -- to carry the chosen answer is to choose the carried one
@@ -13,7 +14,7 @@ pub cond_carry : (x : Added) (s : Bool) (u v : VariantLocation) → carry_place 
 cond_carry x true u v = refl
 cond_carry x false u v = refl
 
-pub cond_located : (x : Added) (b : Bool) (u v : Located) → carry_located x (cond b u v) ≡ cond b (carry_located x u) (carry_located x v)
+pub cond_located : (x : Added) (b : Bool) (u v : Result VariantLocation Refusal) → carry_located x (cond b u v) ≡ cond b (carry_located x u) (carry_located x v)
 cond_located x true u v = refl
 cond_located x false u v = refl
 

@@ -1,13 +1,15 @@
 -- A carried answer loses no mark and no term, and gains them only with the mark that was added.
+use Rattle.std.specs.Prelude.{Result}
+use Rattle.std.specs.Prelude.{Err, Ok}
 use mathlib.Core.Path.{◌≡◌, refl, sym, ◌∙◌}
 use mathlib.Core.Bool.{Bool, true, false, ◌&&◌, ◌||◌}
 use borrow.Author.Tests.{eqb-true}
 use Rattle.common.proofs.TestParts.{true_false, and_true, on_test}
 use Rattle.locate.specs.declared.VariantLocation.{VariantLocation}
 use Rattle.locate.specs.declared.VariantLocation.TheVariants.{Upstream, Downstream, Distal, FivePrimeUtr, CdsExon, ThreePrimeUtr, SpliceDonor, SpliceAcceptor, SpliceRegion, Intron, FrameshiftIntron, NonCodingExon, NonCodingIntron}
-use Rattle.locate.specs.declared.Located.{Located}
+use Rattle.common.specs.declared.refusal.Refusal.{Refusal}
 use Rattle.consequence.specs.declared.ConsequenceResult.{ConsequenceResult}
-use Rattle.consequence.specs.declared.Called.{Called}
+use Rattle.consequence.specs.Called.{Called}
 use Rattle.terms.specs.declared.Consequence.{Consequence}
 use Rattle.terms.specs.declared.Consequence.TheVariants.{SpliceRegionVariant}
 use Rattle.terms.specs.Severity.{severity_rank}
@@ -42,14 +44,14 @@ module _ (x : Added) where
   mark_kept (NonCodingExon i m) = marked m x.mark
   mark_kept (NonCodingIntron i d) = unmarked x.mark
 
-  place_kept : (v : Located) → MarkKept (place_mark v) (place_mark (carry_located x v)) x.mark
-  place_kept (Located.At place) = mark_kept place
-  place_kept (Located.Refused n) = unmarked x.mark
+  place_kept : (v : Result VariantLocation Refusal) → MarkKept (place_mark v) (place_mark (carry_located x v)) x.mark
+  place_kept (Ok place) = mark_kept place
+  place_kept (Err r) = unmarked x.mark
 
   call_kept : (v : Called) → MarkKept (call_mark v) (call_mark (carry_called x v)) x.mark
   unfolding carry_result
-  call_kept (Called.Answered a) = mark_kept a.location
-  call_kept (Called.Refused n) = unmarked x.mark
+  call_kept (Ok a) = mark_kept a.location
+  call_kept (Err r) = unmarked x.mark
 
   -- the terms of a carried answer: the former ones, and splice_region_variant where it is gained
   result_holds : (a : ConsequenceResult) (c : Consequence)
@@ -62,20 +64,20 @@ module _ (x : Added) where
   gains_mark a h = on_test x.mark (λ m. m) (λ m. absurd (true_false (sym (rw m at h))))
 
   terms_kept : (v : Called) → TermsKept v (carry_called x v) x.mark
-  terms_kept (Called.Answered a) = record {
+  terms_kept (Ok a) = record {
     kept = λ c h. result_holds a c ∙ rw h;
     gained = λ c e h. (
         let b = and_true (gains_term x a) (same_term SpliceRegionVariant c) (rw h at (sym (result_holds a c) ∙ e)) in
         (sym (ranks_differ SpliceRegionVariant c (eqb-true (severity_rank SpliceRegionVariant) (severity_rank c) b.1)), gains_mark a b.0));
   }
-  terms_kept (Called.Refused n) = record { kept = λ c h. h; gained = λ c e h. absurd (true_false (sym e)) }
+  terms_kept (Err r) = record { kept = λ c h. h; gained = λ c e h. absurd (true_false (sym e)) }
 
 -- of two answers, one the other's carried; `near` holds wherever the mark is added
 module _ (x : Added) (near : Bool) (n : x.mark ≡ true → near ≡ true) where
   mark_near : (s l : Bool) → MarkKept s l x.mark → MarkKept s l near
   mark_near s l k = record { kept = k.kept; gained = λ e h. n (k.gained e h) }
 
-  pub place_mark_kept : (v w : Located) → w ≡ carry_located x v → MarkKept (place_mark v) (place_mark w) near
+  pub place_mark_kept : (v w : Result VariantLocation Refusal) → w ≡ carry_located x v → MarkKept (place_mark v) (place_mark w) near
   place_mark_kept v w e = mark_near (place_mark v) (place_mark w) (rw e (place_kept x v))
 
   pub call_mark_kept : (v w : Called) → w ≡ carry_called x v → MarkKept (call_mark v) (call_mark w) near

@@ -19,19 +19,19 @@ use Rattle.demands.proofs.Around.{Around}
 -- a test that no gap of over 13 bases passes
 module _ (g : Interval → Bool) (fails : (s e : ℕ) → s + frameshift_intron_max_gap < e → g (interval s e) ≡ false) where
   none_spaced : (e : ℕ) (ys : List Interval) → spaced_from e ys ≡ true → any g (gaps_after e ys) ≡ false
-  unfolding any gaps_after spaced_from
+  unfolding gaps_after spaced_from
   none_spaced e [] h = refl
   none_spaced e (y ∷ ys) h =
       let b = and_true (ltb (e + frameshift_intron_max_gap) y.start) (spaced_from y.end ys) h in
       rw (fails e y.start (ltb-true (e + frameshift_intron_max_gap) y.start b.0)) (none_spaced y.end ys b.1)
 
   gaps_after_lem : (xs ys : List Interval) (e : ℕ) → spaced_from (end_after e xs) ys ≡ true → any g (gaps_after e (xs ++ ys)) ≡ any g (gaps_after e xs)
-  unfolding any gaps_after end_after
+  unfolding gaps_after end_after
   gaps_after_lem [] ys e h = none_spaced e ys h
   gaps_after_lem (x ∷ xs) ys e h = ap (λ (t : Bool). g (interval e x.start) || t) (gaps_after_lem xs ys x.end h)
 
   gaps_before : (xs zs : List Interval) (z : Interval) → spaced_up_to z.start xs ≡ true → any g (gaps (xs ++ (z ∷ zs))) ≡ any g (gaps (z ∷ zs))
-  unfolding any gaps_after spaced_up_to
+  unfolding gaps_after spaced_up_to
   gaps_before [] zs z h = refl
   gaps_before (x ∷ []) zs z h =
       let b = and_true (ltb (x.end + frameshift_intron_max_gap) z.start) true h in
@@ -42,7 +42,7 @@ module _ (g : Interval → Bool) (fails : (s e : ℕ) → s + frameshift_intron_
 
   gaps_joined : (before after xs : List Interval) (x : Interval) (b f : ℕ) → spaced_up_to b before ≡ true → spaced_from f after ≡ true
       → any g (gaps (before ++ (end_at_from f (interval b x.end) xs ++ after))) ≡ any g (gaps (x ∷ xs))
-  unfolding end_at_from any gaps_after
+  unfolding end_at_from gaps_after
   gaps_joined before after [] x b f h l = gaps_before before after (interval b f) h ∙ none_spaced f after l
   gaps_joined before after (y ∷ ys) x b f h l =
       gaps_before before (end_at_from f y ys ++ after) (interval b x.end) h

@@ -1,4 +1,5 @@
 -- A gained mark adds splice_region_variant to an exon base's terms, unless a spill removes it.
+use Rattle.std.proofs.Common.{Option, Some, None}
 use Prim.Native.Nat.{ℕ}
 use mathlib.Core.Path.{◌≡◌, refl}
 use mathlib.Core.Bool.{Bool, true, false, cond, not, ◌&&◌, ◌||◌}
@@ -10,7 +11,6 @@ use Rattle.common.proofs.TestParts.{and_true}
 use Rattle.codon.specs.Table.{translate_codon, translate_reference_codon, build_alt_codon}
 use Rattle.footprint.specs.declared.SpliceSpill.{SpliceSpill}
 use Rattle.transcript.specs.Orient.{Oriented}
-use Rattle.consequence.specs.declared.FetchedCodon.{FetchedCodon}
 use Rattle.terms.specs.declared.Consequence.{Consequence}
 use Rattle.terms.specs.declared.Consequence.TheVariants.{SpliceRegionVariant, StopGained, StopLost, StartLost, MissenseVariant, StartRetainedVariant, StopRetainedVariant, IncompleteTerminalCodonVariant, SynonymousVariant, CodingSequenceVariant, FivePrimeUtrVariant, ThreePrimeUtrVariant, NonCodingTranscriptExonVariant}
 use Rattle.terms.specs.Terms.{only, with_term, with_term_if, without_term, spill_terms}
@@ -19,6 +19,7 @@ use Rattle.consequence.specs.Coding.{is_start_codon}
 use Rattle.consequence.specs.Reading.{is_incomplete_terminal_codon, holds_selenocysteine}
 use Rattle.consequence.specs.Answer.{Columns, incomplete_codon, whole_codon, codon_columns}
 use Rattle.demands.specs.Carry.{has_splice}
+use Rattle.codon.specs.declared.Codon.{Codon}
 
 -- an exon base's terms with the mark, after the spill
 abbrev pub marked : ℕ → Bool → SpliceSpill → ℕ
@@ -94,12 +95,12 @@ either_columns : (b : Bool) (u v : Columns) → KeepsColumns u → KeepsColumns 
 either_columns true u v f g = f
 either_columns false u v f g = g
 
-pub keeps_columns : (code : List ℕ) (t : Oriented) (offset number k alt : ℕ) (c : FetchedCodon) → KeepsColumns (codon_columns code t offset number k alt c)
+pub keeps_columns : (code : List ℕ) (t : Oriented) (offset number k alt : ℕ) (c : Option Codon) → KeepsColumns (codon_columns code t offset number k alt c)
 unfolding codon_columns kept spill_terms with_term without_term
-keeps_columns code t offset number k alt (FetchedCodon.Bases c) =
+keeps_columns code t offset number k alt (Some c) =
     let altered = build_alt_codon c k alt in
     let ref = translate_reference_codon code (holds_selenocysteine t number) c in
     let read = translate_codon code altered in
     either_columns (is_incomplete_terminal_codon t offset) (incomplete_codon offset number c altered k) (whole_codon t offset number c altered k ref read)
     (computed (with_term (only IncompleteTerminalCodonVariant) CodingSequenceVariant) refl) (keeps_coding (is_start_codon t number) ref read)
-keeps_columns code t offset number k alt FetchedCodon.OutsideWindow = computed 0 refl
+keeps_columns code t offset number k alt None = computed 0 refl

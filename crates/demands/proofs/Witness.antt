@@ -3,7 +3,6 @@ use Prim.Native.Nat.{ℕ}
 use mathlib.Core.Path.{refl}
 use mathlib.Core.List.{[], ◌∷◌}
 use native.Mathlib.Omega.{arith}
-use Rattle.common.specs.Lists.{any}
 use Rattle.codon.specs.Bases.{base_number}
 use Rattle.transcript.specs.declared.Strand.TheVariants.{Plus, Minus}
 use Rattle.transcript.specs.Transcript.{exons_of, segments_of}
@@ -62,7 +61,7 @@ minus_longer n = record {
 }
 
 pub pairs : Pairs
-unfolding exons_of segments_of any oriented bad_counts bad_coordinates ascending index_fault cuts same_cuts admission end_after bases_in find_after find_exon_or_intron interval_index exonic locate gaps_after exonic_splice_spill base_number question_refusal opening_refusal call_refusal call_result place_result annotate_snv spill_terms with_term without_term plus_longer minus_longer
+unfolding exons_of segments_of oriented bad_counts bad_coordinates ascending index_fault cuts same_cuts admission end_after bases_in find_after find_exon_or_intron interval_index exonic locate gaps_after exonic_splice_spill base_number question_refusal opening_refusal call_refusal call_result place_result annotate_snv spill_terms with_term without_term plus_longer minus_longer
 pairs Plus = (
   record { admitted_shorter = refl; admitted_longer = refl; is_longer = plus_longer 1; before = refl; after = refl; inside = refl; near = refl; not_near = refl; shorter_terms = refl; longer_terms = refl },
   record { admitted_shorter = refl; admitted_longer = refl; is_longer = plus_longer 25; before = refl; after = refl; inside = refl; near = refl; not_near = refl; shorter_terms = refl; longer_terms = refl },

@@ -1,14 +1,17 @@
 -- What a longer transcript answers, from the shorter's answer and from what was added.
-use Rattle.std.specs.Prelude.{ℕ, ◌+◌, Bool, true, false, not, ◌&&◌, ◌||◌}
+use Rattle.std.specs.Prelude.{Result}
+use Rattle.std.specs.Prelude.{Err, Ok}
+use Rattle.std.specs.Prelude.{ℕ, ◌+◌, Bool, true, false, not, ◌&&◌, ◌||◌, Option, Some, None}
 use Rattle.locate.specs.declared.VariantLocation.{VariantLocation}
 use Rattle.locate.specs.declared.VariantLocation.TheVariants.{Upstream, Downstream, Distal, FivePrimeUtr, CdsExon, ThreePrimeUtr, SpliceDonor, SpliceAcceptor, SpliceRegion, Intron, FrameshiftIntron, NonCodingExon, NonCodingIntron}
-use Rattle.locate.specs.declared.Located.{Located}
+use Rattle.common.specs.declared.refusal.Refusal.{Refusal}
 use Rattle.consequence.specs.declared.Numbered.{Numbered}
-use Rattle.consequence.specs.declared.CdnaCounted.{CdnaCounted}
 use Rattle.consequence.specs.declared.ConsequenceResult.{ConsequenceResult}
-use Rattle.consequence.specs.declared.Called.{Called}
+use Rattle.consequence.specs.Called.{Called}
 use Rattle.terms.specs.declared.Consequence.TheVariants.{SpliceAcceptorVariant, SpliceDonorVariant, SpliceRegionVariant}
 use Rattle.terms.specs.Terms.{holds_term, with_term_if}
+use Rattle.consequence.specs.Answer.{nth_of}
+use Rattle.locate.specs.declared.CdnaPosition.{CdnaPosition}
 
 -- exons and exonic bases added 5' of the base, exons added in all, and whether the splice mark is gained
 pub record Added : Type 0 where
@@ -34,18 +37,18 @@ carry_place x (NonCodingExon i m) = NonCodingExon (i + x.exons5) (m || x.mark)
 carry_place x (NonCodingIntron i d) = NonCodingIntron (i + x.exons5) d
 
 -- a number moves by the exons added 5', a total by all exons added
-abbrev pub carry_number : Added → Numbered → Numbered
-carry_number x Numbered.Absent = Numbered.Absent
-carry_number x (Numbered.Of k n) = Numbered.Of (k + x.exons5) (n + x.exons)
+abbrev pub carry_number : Added → Option Numbered → Option Numbered
+carry_number x None = None
+carry_number x (Some k) = Some (nth_of (k.number + x.exons5) (k.total + x.exons))
 
 -- a cDNA position moves by the exonic bases added 5'
-abbrev pub carry_cdna : Added → CdnaCounted → CdnaCounted
-carry_cdna x CdnaCounted.Absent = CdnaCounted.Absent
-carry_cdna x (CdnaCounted.At k) = CdnaCounted.At (record { 0 = k.0 + x.bases5 })
+abbrev pub carry_cdna : Added → Option CdnaPosition → Option CdnaPosition
+carry_cdna x None = None
+carry_cdna x (Some k) = Some (record { 0 = k.0 + x.bases5 })
 
-abbrev pub is_numbered : Numbered → Bool
-is_numbered Numbered.Absent = false
-is_numbered (Numbered.Of k n) = true
+abbrev pub is_numbered : Option Numbered → Bool
+is_numbered None = false
+is_numbered (Some n) = true
 
 -- the terms hold a splice term, as a spill gives an exon base
 abbrev pub has_splice : ℕ → Bool
@@ -69,10 +72,10 @@ carry_result x a = record {
 }
 
 -- refusals are alike
-abbrev pub carry_located : Added → Located → Located
-carry_located x (Located.At place) = Located.At (carry_place x place)
-carry_located x (Located.Refused n) = Located.Refused n
+abbrev pub carry_located : Added → Result VariantLocation Refusal → Result VariantLocation Refusal
+carry_located x (Ok place) = Ok (carry_place x place)
+carry_located x (Err r) = Err r
 
 abbrev pub carry_called : Added → Called → Called
-carry_called x (Called.Answered a) = Called.Answered (carry_result x a)
-carry_called x (Called.Refused n) = Called.Refused n
+carry_called x (Ok a) = Ok (carry_result x a)
+carry_called x (Err r) = Err r

@@ -1,9 +1,11 @@
 -- What a longer transcript's answer may gain over the shorter's: splice marks and terms, near an outer end and nowhere else.
+use Rattle.std.specs.Prelude.{Result}
+use Rattle.std.specs.Prelude.{Err, Ok}
 use Rattle.std.specs.Prelude.{Bool, true, false, ◌≡◌}
 use Rattle.locate.specs.declared.VariantLocation.{VariantLocation}
 use Rattle.locate.specs.declared.VariantLocation.TheVariants.{Upstream, Downstream, Distal, FivePrimeUtr, CdsExon, ThreePrimeUtr, SpliceDonor, SpliceAcceptor, SpliceRegion, Intron, FrameshiftIntron, NonCodingExon, NonCodingIntron}
-use Rattle.locate.specs.declared.Located.{Located}
-use Rattle.consequence.specs.declared.Called.{Called}
+use Rattle.common.specs.declared.refusal.Refusal.{Refusal}
+use Rattle.consequence.specs.Called.{Called}
 use Rattle.terms.specs.declared.Consequence.{Consequence}
 use Rattle.terms.specs.declared.Consequence.TheVariants.{SpliceRegionVariant}
 use Rattle.terms.specs.Terms.{holds_term}
@@ -25,18 +27,18 @@ splice_mark (NonCodingExon i m) = m
 splice_mark (NonCodingIntron i d) = false
 
 -- the mark of an answer; a refusal has none
-abbrev pub place_mark : Located → Bool
-place_mark (Located.At place) = splice_mark place
-place_mark (Located.Refused n) = false
+abbrev pub place_mark : Result VariantLocation Refusal → Bool
+place_mark (Ok place) = splice_mark place
+place_mark (Err r) = false
 
 abbrev pub call_mark : Called → Bool
-call_mark (Called.Answered a) = splice_mark a.location
-call_mark (Called.Refused n) = false
+call_mark (Ok a) = splice_mark a.location
+call_mark (Err r) = false
 
 -- the answer has the term; a refusal has none
 abbrev pub has_term : Called → Consequence → Bool
-has_term (Called.Answered a) c = holds_term a.consequences.0 c
-has_term (Called.Refused n) c = false
+has_term (Ok a) c = holds_term a.consequences.0 c
+has_term (Err r) c = false
 
 -- the mark is not lost, and is gained only near
 pub record MarkKept (shorter longer near : Bool) : Type 0 where

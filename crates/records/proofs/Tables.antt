@@ -1,26 +1,27 @@
 -- A table of records, cut at their number, is the records; over 512 of them are refusal 1.
 -- Assumes nothing.
+use Rattle.std.specs.Prelude.{Err}
+use Rattle.common.specs.declared.refusal.Refusal.{Refusal}
+use Rattle.common.specs.Refusal.{outcome}
 use Prim.Native.Nat.{ℕ, zero, suc, ◌+◌, ◌-◌, ◌≤◌, ◌<◌}
-use mathlib.Core.Path.{◌≡◌, refl, ap, subst}
+use mathlib.Core.Path.{◌≡◌, refl, ap, subst, sym}
 use mathlib.Core.Bool.{Bool, true, false, cond}
 use mathlib.Core.List.{List, [], ◌∷◌, map}
 use native.Mathlib.Omega.{arith}
 use lib.ListN.{length, get_or, take, set, replicate, length-map}
 use lib.Seq.{take-length, take_at}
 use borrow.Author.Tests.{lt-ltb, ne_eqb, eq-eqb}
-use Rattle.common.proofs.Filling.{front, front_length, front_step}
+use Rattle.common.proofs.Filling.{front, front_step}
 use Rattle.transcript.specs.declared.TranscriptModel.{TranscriptModel}
 use Rattle.transcript.specs.declared.Exon.{Exon}
 use Rattle.transcript.specs.Transcript.{Transcript, exons_of, lent}
 use Rattle.transcript.specs.Admission.{bad_counts, admission}
 use Rattle.footprint.specs.Ranges.{source_ranges}
 use Rattle.locate.specs.Query.{locate_variant}
-use Rattle.locate.specs.declared.Located.{Located}
 use Rattle.locate.proofs.VariantCases.{is_refused_lem}
 use Rattle.consequence.specs.Window.{Window}
 use Rattle.consequence.specs.Call.{annotate_snv}
 use Rattle.consequence.specs.declared.Call.{Call}
-use Rattle.consequence.specs.declared.Called.{Called}
 use Rattle.consequence.proofs.Calling.{not_admitted}
 use Rattle.records.specs.Records.{even_segments, lent_records}
 use Rattle.records.specs.code.Table.{exon_starts_of, exon_ends_of, Tabled}
@@ -34,9 +35,6 @@ module _ (at : Exon → ℕ) (none : Exon) where
   mapped_at (x ∷ xs) (suc i) l = mapped_at xs i (omega arith)
 
   module _ (xs : List Exon) (few : length xs ≤ 512) where
-    pub copied_length : (i : ℕ) → i ≤ length xs → length (front (map at xs) 512 i) ≡ 512
-    copied_length i l = let e = length-map xs at in front_length (map at xs) 512 i (omega arith) (omega arith)
-
     pub copied_step : (i : ℕ) → i < length xs → set (front (map at xs) 512 i) i (at (get_or xs i none)) ≡ front (map at xs) 512 (i + 1)
     copied_step i l =
         let e = length-map xs at in
@@ -53,9 +51,6 @@ module _ (none : Exon) (xs : List Exon) where
     starting = λ _. copied_all (λ (x : Exon). x.genomic_start) none xs few;
     ending = λ _. copied_all (λ (x : Exon). x.genomic_end) none xs few;
   }
-
-  pub none_copied : 512 < length xs → (ss es : List ℕ) → Tabled xs (record { count = length xs; starts = ss; ends = es })
-  none_copied many ss es = record { counted = refl; starting = λ few. absurd (omega arith); ending = λ few. absurd (omega arith) }
 
 -- the records' starts and ends, lent apart, are the records
 records_again : (xs : List Exon) → exons_of (exon_starts_of xs) (exon_ends_of xs) ≡ xs
@@ -88,11 +83,14 @@ module _ (m : TranscriptModel) (xs : List Exon) (ps is ss es bs : List ℕ) wher
     counted_many : 512 < t.count → 512 < length xs
     counted_many h = let e = k.counted in omega arith
 
-    pub place_refused : (c s e : ℕ) → 512 < t.count → Located.Refused 1 ≡ locate_variant source_ranges records c s e
-    place_refused c s e h = is_refused_lem source_ranges records c s e 1 (omega arith) (too_many (counted_many h))
+    refused : {A : Type 0} (x : A) (n : ℕ) → n ≡ admission records → 512 < t.count → outcome n x ≡ Err Refusal.Counts
+    refused x n q h = rw (q, sym (too_many (counted_many h)))
 
-    pub call_refused : (w : Window) (q : Call) → 512 < t.count → Called.Refused 1 ≡ annotate_snv source_ranges records w q
-    call_refused w q h = not_admitted source_ranges records w q 1 (omega arith) (too_many (counted_many h))
+    pub place_refused : (c s e : ℕ) → 512 < t.count → Err Refusal.Counts ≡ locate_variant source_ranges records c s e
+    place_refused c s e h = is_refused_lem source_ranges records c s e (outcome (admission records) tt) Refusal.Counts refl (refused tt (admission records) refl h)
+
+    pub call_refused : (w : Window) (q : Call) → 512 < t.count → Err Refusal.Counts ≡ annotate_snv source_ranges records w q
+    call_refused w q h = not_admitted source_ranges records w q Refusal.Counts (refused tt (admission records) refl h)
 
     -- the table's front is the records
     pub table_lent : t.count ≤ 512 → lent m (take t.count t.starts) (take t.count t.ends) ps is ss es bs ≡ records

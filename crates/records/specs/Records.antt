@@ -1,10 +1,8 @@
 -- A transcript whose exons are lent as a list of records.
 use Rattle.std.specs.Prelude.{ℕ, Bool, cond, ◌&&◌, List, [], length, eqb}
-use Rattle.std.specs.Borrow.{Bor}
-use denote.Triple.Both.{Both}
-use Rattle.common.specs.Slices.{Passed}
 use Rattle.transcript.specs.declared.TranscriptModel.{TranscriptModel}
 use Rattle.transcript.specs.declared.Exon.{Exon}
+use Rattle.transcript.specs.declared.CdsSegments.{CdsSegments}
 use Rattle.transcript.specs.Transcript.{Transcript, segments_of}
 
 -- phases, exon indexes, starts and ends have one length
@@ -21,15 +19,6 @@ lent_records m xs phases indexes starts ends bases = record {
   selenocysteine = bases;
 }
 
--- the same of records beside slices that were given, as an `ensures` names them
-abbrev pub records_lent : TranscriptModel → List Exon → Passed → Passed → Passed → Passed → Passed → Transcript
-records_lent m xs phases indexes starts ends bases =
-    lent_records m xs phases.entry.now indexes.entry.now starts.entry.now ends.entry.now bases.entry.now
-
--- a slice of exon records, at entry and at exit
-abbrev pub PassedExons : Type 0
-PassedExons = Both (Bor (List Exon)) (Bor (List Exon))
-
--- the transcript that was given, its exons as a slice of records
-abbrev pub records_were_given : TranscriptModel → PassedExons → Passed → Passed → Passed → Passed → Passed → Transcript
-records_were_given m xs phases indexes starts ends bases = records_lent m xs.entry.now phases indexes starts ends bases
+-- the same of segments that a struct lends
+abbrev pub records_lent : TranscriptModel → List Exon → CdsSegments → List ℕ → Transcript
+records_lent m xs g bases = lent_records m xs g.phases.now g.exon_indexes.now g.bases.starts.now g.bases.ends.now bases

@@ -2,13 +2,14 @@
 ghost use Rattle.std.specs.Prelude.{◌≡◌};
 ghost use Rattle.footprint.specs.Ranges.{source_ranges};
 ghost use Rattle.locate.specs.Query.{locate_variant};
-ghost use Rattle.records.specs.Records.{records_were_given};
+ghost use Rattle.records.specs.Records.{records_lent};
 ghost use Rattle.records.specs.code.Table.{OnRecords, place_asked};
 
 use super::ExonTable;
 use super::table::table_of;
-use locate::{Located, locate_variant};
-use transcript::{Exon, TranscriptModel};
+use common::refusal::Refusal;
+use locate::{VariantLocation, locate_variant};
+use transcript::{CdsSegments, Exon, Intervals, Transcript, TranscriptModel};
 
 // The place on the records of a table; over 512 records are refusal 1.
 fn locate_table(
@@ -16,51 +17,39 @@ fn locate_table(
     start: u64,
     end: u64,
     model: TranscriptModel,
-    table: ExonTable,
-    seg_phases: &[u8],
-    seg_exons: &[u16],
-    seg_starts: &[u64],
-    seg_ends: &[u64],
+    table: &ExonTable,
+    segments: CdsSegments,
     selenocysteine: &[u64],
-) -> Located
-    ensures { let asked = place_asked chromosome start end in
-        OnRecords asked model table seg_phases seg_exons seg_starts seg_ends selenocysteine result }
+) -> Result<VariantLocation, Refusal>
+    ensures { OnRecords (place_asked chromosome start end) model table.now segments.entry selenocysteine.now result }
 {
     let n = table.count;
     if 512 < n {
-        return Located::Refused(1);
+        return Err(Refusal::Counts);
     }
-    let starts = table.starts;
-    let ends = table.ends;
-    locate_variant(
-        chromosome,
-        start,
-        end,
+    let transcript = Transcript {
         model,
-        &starts[..n],
-        &ends[..n],
-        seg_phases,
-        seg_exons,
-        seg_starts,
-        seg_ends,
+        exons: Intervals {
+            starts: &table.starts[..n],
+            ends: &table.ends[..n],
+        },
+        segments,
         selenocysteine,
-    )
+    };
+    locate_variant(chromosome, start, end, &transcript)
 }
 
-// The place of the base at `start`, or the number of the refusal.
+// The place of the base at `start`, or its refusal.
 pub fn locate_exons(
     chromosome: u16,
     start: u64,
     end: u64,
     model: TranscriptModel,
     exons: &[Exon],
-    seg_phases: &[u8],
-    seg_exons: &[u16],
-    seg_starts: &[u64],
-    seg_ends: &[u64],
+    segments: CdsSegments,
     selenocysteine: &[u64],
-) -> Located
-    ensures { let t = records_were_given model exons seg_phases seg_exons seg_starts seg_ends selenocysteine in
+) -> Result<VariantLocation, Refusal>
+    ensures { let t = records_lent model exons.now segments.entry selenocysteine.now in
         result ≡ locate_variant source_ranges t chromosome start end }
 {
     locate_table(
@@ -68,11 +57,8 @@ pub fn locate_exons(
         start,
         end,
         model,
-        table_of(exons),
-        seg_phases,
-        seg_exons,
-        seg_starts,
-        seg_ends,
+        &table_of(exons),
+        segments,
         selenocysteine,
     )
 }

@@ -12,12 +12,9 @@ pub(crate) fn table_of(exons: &[Exon]) -> ExonTable
     let mut starts = [0u64; 512];
     let mut ends = [0u64; 512];
     if count <= 512 {
-        let mut i = 0;
-        while i < count {
-            let x = exons[i];
-            starts[i] = x.genomic_start;
-            ends[i] = x.genomic_end;
-            i += 1;
+        for (i, exon) in exons.iter().enumerate() {
+            starts[i] = exon.genomic_start;
+            ends[i] = exon.genomic_end;
         }
     }
     ExonTable {

@@ -1,16 +1,16 @@
 -- A shorter and a longer transcript on a chromosome, on each strand, to which demand 3 applies: exons are added at both ends, and the shorter's first exon
 -- begins farther 5' in the longer.
+use Rattle.std.specs.Prelude.{Some}
 use Rattle.std.specs.Prelude.{ℕ, ◌+◌, ◌-◌, true, false, [], ◌∷◌, map, ◌≡◌, length}
 use Rattle.common.specs.Text.{byte}
 use Rattle.transcript.specs.declared.Strand.{Strand}
 use Rattle.transcript.specs.declared.Strand.TheVariants.{Plus, Minus}
-use Rattle.transcript.specs.declared.CdsBounds.TheVariants.{Both}
 use Rattle.transcript.specs.declared.TranscriptModel.{TranscriptModel}
 use Rattle.footprint.specs.Ranges.{source_ranges}
 use Rattle.transcript.specs.Limits.{mitochondrial}
 use Rattle.transcript.specs.Transcript.{Transcript, lent}
 use Rattle.transcript.specs.Admission.{Admitted}
-use Rattle.consequence.specs.declared.Called.{Called}
+use Rattle.consequence.specs.Called.{Called}
 use Rattle.consequence.specs.Call.{annotate_snv}
 use Rattle.terms.specs.declared.Consequence.TheVariants.{SpliceRegionVariant, ThreePrimeUtrVariant}
 use Rattle.demands.specs.Longer.{Longer, inside_transcript}
@@ -19,7 +19,7 @@ use Rattle.demands.specs.claims.Demands.{near_outer_end, call_at}
 
 -- CDS [110,170)
 abbrev model : ℕ → Strand → ℕ → ℕ → ℕ → ℕ → TranscriptModel
-model chromosome strand id count s e = record { id = id; chromosome = chromosome; strand = strand; exon_count = count; tx_start = s; tx_end = e; cds = Both 110 170; cds_start_complete = true }
+model chromosome strand id count s e = record { id = id; chromosome = chromosome; strand = strand; exon_count = count; tx_start = s; tx_end = e; cds = Some (record { cds_genomic_start = 110; cds_genomic_end = 170 }); cds_start_complete = true }
 
 -- exons [100,130) and [160,190), a selenocysteine base at 127
 abbrev pub shorter : ℕ → Strand → Transcript

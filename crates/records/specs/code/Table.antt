@@ -1,14 +1,15 @@
 -- The table that the code makes of exon records.
-use Rattle.std.specs.Prelude.{ℕ, ◌≤◌, ◌≡◌, List, map, length, take}
-use Rattle.common.specs.Slices.{Passed}
+use Rattle.std.specs.Prelude.{ℕ, ◌≤◌, ◌≡◌, List, map, length, take, Result}
+use Rattle.common.specs.declared.refusal.Refusal.{Refusal}
 use Rattle.transcript.specs.declared.Exon.{Exon}
 use Rattle.transcript.specs.declared.TranscriptModel.{TranscriptModel}
+use Rattle.transcript.specs.declared.CdsSegments.{CdsSegments}
 use Rattle.transcript.specs.Transcript.{Transcript}
 use Rattle.footprint.specs.Ranges.{source_ranges}
-use Rattle.locate.specs.declared.Located.{Located}
+use Rattle.locate.specs.declared.VariantLocation.{VariantLocation}
 use Rattle.locate.specs.Query.{locate_variant}
 use Rattle.consequence.specs.declared.Call.{Call}
-use Rattle.consequence.specs.declared.Called.{Called}
+use Rattle.consequence.specs.Called.{Called}
 use Rattle.consequence.specs.Window.{Window}
 use Rattle.consequence.specs.Call.{annotate_snv}
 use Rattle.records.specs.Records.{records_lent}
@@ -27,11 +28,11 @@ pub record Tabled (xs : List Exon) (t : ExonTable) : Type 0 where
   pub ending : length xs ≤ 512 → take (length xs) t.ends ≡ exon_ends_of xs
 
 -- the answer to a question about a transcript, on whatever records the table was made of
-abbrev pub OnRecords : {A : Type 0} → (Transcript → A) → TranscriptModel → ExonTable → Passed → Passed → Passed → Passed → Passed → A → Type 0
-OnRecords ask m table phases indexes starts ends bases r = (xs : List Exon) → Tabled xs table → r ≡ ask (records_lent m xs phases indexes starts ends bases)
+abbrev pub OnRecords : {A : Type 0} → (Transcript → A) → TranscriptModel → ExonTable → CdsSegments → List ℕ → A → Type 0
+OnRecords ask m table segments bases r = (xs : List Exon) → Tabled xs table → r ≡ ask (records_lent m xs segments bases)
 
 -- the place, as `locate_variant` answers it, and the call, as `annotate_snv` does
-abbrev pub place_asked : ℕ → ℕ → ℕ → Transcript → Located
+abbrev pub place_asked : ℕ → ℕ → ℕ → Transcript → Result VariantLocation Refusal
 place_asked chromosome s e t = locate_variant source_ranges t chromosome s e
 
 abbrev pub call_asked : Window → Call → Transcript → Called

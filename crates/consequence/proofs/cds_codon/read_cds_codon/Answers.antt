@@ -1,4 +1,6 @@
 -- The codon outside the window, or its columns.
+use Rattle.std.specs.Prelude.{Ok}
+use Rattle.std.proofs.Common.{Option}
 use Prim.Native.Nat.{ℕ}
 use mathlib.Core.Bool.{Bool}
 use mathlib.Core.List.{List}
@@ -8,8 +10,7 @@ use Rattle.locate.specs.declared.IndexScalars.{IndexScalars}
 use Rattle.locate.specs.declared.VariantLocation.{VariantLocation}
 use Rattle.locate.specs.Place.{total_cds_length}
 use Rattle.locate.specs.Index.{index_scalars}
-use Rattle.consequence.specs.declared.FetchedCodon.{FetchedCodon}
-use Rattle.consequence.specs.declared.Called.{Called}
+use Rattle.consequence.specs.Called.{Called}
 use Rattle.consequence.specs.declared.region.Region.{Region}
 use Rattle.codon.specs.Table.{build_alt_codon}
 use Rattle.consequence.specs.Window.{coding_byte}
@@ -18,9 +19,10 @@ use Rattle.consequence.specs.code.AtPlace.{coding_called}
 use Rattle.consequence.specs.Answer.{Columns, codon_result, read_codon, codon_columns}
 use Rattle.consequence.proofs.cds_codon.read_cds_codon.Goals as goal
 use Rattle.consequence.proofs.cds_codon.read_cds_codon.Goals.{Start}
+use Rattle.codon.specs.declared.Codon.{Codon}
 
 -- the answer from the codon
-abbrev called : Start → List ℕ → Oriented → ℕ → VariantLocation → ℕ → Bool → FetchedCodon → Called
+abbrev called : Start → List ℕ → Oriented → ℕ → VariantLocation → ℕ → Bool → Option Codon → Called
 called b table t p place i mark c =
     coding_called table t p (coding_byte b.args.strand b.args.alt_base) place i b.args.offset b.args.number b.args.position mark c
 
@@ -30,15 +32,10 @@ pad_of b t h = sym (ap (λ (x : IndexScalars). x.cds_start_pad) h)
 total_of : (b : Start) (t : Oriented) → b.args.scalars ≡ index_scalars t → total_cds_length t ≡ b.args.scalars.total_cds_length
 total_of b t h = sym (ap (λ (x : IndexScalars). x.total_cds_length) h)
 
-pub returns-in_default : goal.returns-in_default
-returns-in_default c =
-    λ table t e hs hc hg hu p place i mark.
-    ap (called (goal.at.returns-in_default c).Start table t p place i mark) (sym c.in_default.is ∙ c.fetch_ref_codon-codon.ensures t (pad_of (goal.at.returns-in_default c).Start t hs) hg (total_of (goal.at.returns-in_default c).Start t hs))
-
 pub returns : goal.returns
 unfolding codon_columns
 returns c =
-    let bases = c.in-Bases.c in
+    let bases = c.in_ok-c.c in
     λ table t e hs hc hg hu p place i mark.
     let start = c.is_start_codon.ensures t (pad_of (goal.at.returns c).Start t hs) hc in
     let padded = c.is_padded_codon.ensures t (pad_of (goal.at.returns c).Start t hs) in
@@ -46,5 +43,5 @@ returns c =
     let held = c.holds_selenocysteine.ensures t (ap (λ (x : IndexScalars). x.selenocysteine_count) hs) hu in
     let columns = c.read_codon.ensures table t c.args.offset.0 c.args.number e start padded unfinished held
     ∙ ap (λ (n : ℕ). read_codon table t c.args.offset.0 c.args.number bases (build_alt_codon bases c.args.position n) c.args.position) c.coding_byte.ensures in
-    ap (λ (x : Columns). Called.Answered (codon_result t p place (Region.Coding i c.args.offset c.args.number c.args.position mark) x)) columns
-    ∙ ap (called (goal.at.returns c).Start table t p place i mark) (sym c.in-Bases.is ∙ c.fetch_ref_codon-codon.ensures t (pad_of (goal.at.returns c).Start t hs) hg (total_of (goal.at.returns c).Start t hs))
+    ap (λ (x : Columns). Ok (codon_result t p place (Region.Coding i c.args.offset c.args.number c.args.position mark) x)) columns
+    ∙ ap (called (goal.at.returns c).Start table t p place i mark) (sym c.in_ok-c.was ∙ c.fetch_ref_codon.ensures t (pad_of (goal.at.returns c).Start t hs) hg (total_of (goal.at.returns c).Start t hs))

@@ -1,16 +1,18 @@
 -- The answer from what the codon gives.
+use Rattle.std.specs.Prelude.{Ok}
+use Rattle.std.proofs.Common.{Option}
 use Prim.Native.Nat.{ℕ}
 use mathlib.Core.Path.{sym, ◌∙◌, ap}
 use Rattle.transcript.specs.Orient.{Oriented}
-use Rattle.consequence.specs.declared.Called.{Called}
-use Rattle.consequence.specs.declared.cds_codon.CdsCodon.{CdsCodon}
+use Rattle.consequence.specs.Called.{Called}
 use Rattle.consequence.specs.code.AtPlace.{columns_of, columns_called}
 use Rattle.consequence.specs.Answer.{exon_result}
 use Rattle.consequence.proofs.coding.annotate_cds_snv.Goals as goal
 use Rattle.consequence.proofs.coding.annotate_cds_snv.Goals.{Start}
+use Rattle.consequence.specs.declared.columns.CodonColumns.{CodonColumns}
 
 -- the answer from what the codon gives
-abbrev called : Start → Oriented → ℕ → CdsCodon → Called
+abbrev called : Start → Oriented → ℕ → Option CodonColumns → Called
 called b t p r = columns_called t p b.args.place b.args.i b.args.offset b.args.number b.args.position b.args.mark r
 
 pub read_cds_codon-read-requires : goal.read_cds_codon-read-requires
@@ -32,8 +34,8 @@ coding_result-requires c = let h = c.requires.i_bound in (h.0, h.1)
 pub returns : goal.returns
 returns c =
     λ table t p e he hs hc hg hu hd.
-    ap Called.Answered
+    ap Ok
     (c.coding_result.ensures t p he (hd ∙ sym c.cdna_position-cdna.ensures)
-    ∙ ap (λ (n : ℕ). exon_result t p c.args.place c.args.i (columns_of c.args.offset.0 c.args.number c.args.position c.in-Read.columns) n) c.with_mark-terms.ensures)
-    ∙ ap (called (goal.at.returns c).Start t p) (sym c.in-Read.is)
+    ∙ ap (λ (n : ℕ). exon_result t p c.args.place c.args.i (columns_of c.args.offset.0 c.args.number c.args.position c.in-Some.columns) n) c.with_mark-terms.ensures)
+    ∙ ap (called (goal.at.returns c).Start t p) (sym c.in-Some.is)
     ∙ c.read_cds_codon-read.ensures table t e hs hc hg hu p c.args.place c.args.i c.args.mark

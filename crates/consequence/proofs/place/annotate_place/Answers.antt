@@ -1,77 +1,70 @@
+use Rattle.std.specs.Prelude.{Ok}
+use Rattle.std.proofs.Common.{Option}
 use Prim.Native.Nat.{ℕ}
 use mathlib.Core.Path.{◌≡◌, refl, sym, ◌∙◌, ap}
-use mathlib.Core.List.{List}
 use lib.ListN.{length}
 use lib.Dec.{ltb}
-use Rattle.transcript.specs.declared.TranscriptModel.{TranscriptModel}
 use Rattle.transcript.specs.Transcript.{Transcript, lent}
 use Rattle.transcript.specs.Orient.{oriented}
-use Rattle.locate.specs.declared.IndexScalars.{IndexScalars}
 use Rattle.consequence.specs.Region.{region_of, with_mark}
 use Rattle.consequence.specs.code.AtPlace.{region_called, place_called}
-use Rattle.consequence.specs.code.Prepared.{Prepared}
-use Rattle.consequence.specs.declared.FetchedCodon.{FetchedCodon}
-use Rattle.consequence.specs.declared.Called.{Called}
 use Rattle.consequence.specs.declared.region.Region.{Region}
 use Rattle.consequence.specs.Window.{window_from, coding_byte}
 use Rattle.consequence.specs.Answer.{no_codon, flank_result, intron_result, exon_result}
 use Rattle.consequence.specs.Call.{call_table, call_codon}
+use Rattle.consequence.proofs.OnPrepared.{on_prepared}
 use Rattle.consequence.proofs.Regions.{AtRegion}
 use Rattle.consequence.proofs.Preparing.{exon_count, index_fits, segments_at, exon_requires, exon_cdna, at_region, called, coding_cdna, coding_requires}
 use Rattle.consequence.proofs.place.annotate_place.Goals as goal
 use Rattle.consequence.proofs.place.annotate_place.Goals.{Start}
+use Rattle.codon.specs.declared.Codon.{Codon}
 
 -- a law about the transcript and its index, at them
-abbrev on : (b : Start) → {P : (m : TranscriptModel) (ss es ps is gs ge bs : List ℕ) (x : IndexScalars) (xs ys cs : List ℕ) → Prepared (lent m ss es ps is gs ge bs) x xs ys cs → Type 0}
-    → ((m : TranscriptModel) (ss es ps is gs ge bs : List ℕ) (x : IndexScalars) (xs ys cs : List ℕ) (h : Prepared (lent m ss es ps is gs ge bs) x xs ys cs) → P m ss es ps is gs ge bs x xs ys cs h)
-    → P b.args.model b.args.exon_starts.now b.args.exon_ends.now b.args.seg_phases.now b.args.seg_exons.now b.args.seg_starts.now b.args.seg_ends.now b.args.selenocysteine.now b.args.scalars b.args.cumulative_exons.now b.args.cumulative_cds.now b.args.selenocysteine_codons.now b.requires.fact_1
-on b f = f b.args.model b.args.exon_starts.now b.args.exon_ends.now b.args.seg_phases.now b.args.seg_exons.now b.args.seg_starts.now b.args.seg_ends.now b.args.selenocysteine.now b.args.scalars b.args.cumulative_exons.now b.args.cumulative_cds.now b.args.selenocysteine_codons.now b.requires.fact_1
-
 abbrev transcript : Start → Transcript
-transcript b = lent b.args.model b.args.exon_starts.now b.args.exon_ends.now b.args.seg_phases.now b.args.seg_exons.now b.args.seg_starts.now b.args.seg_ends.now b.args.selenocysteine.now
+transcript b = lent b.args.transcript.now.model b.args.transcript.now.exons.starts.now b.args.transcript.now.exons.ends.now b.args.transcript.now.segments.phases.now b.args.transcript.now.segments.exon_indexes.now b.args.transcript.now.segments.bases.starts.now b.args.transcript.now.segments.bases.ends.now b.args.transcript.now.selenocysteine.now
 
-abbrev codon : Start → ℕ → FetchedCodon
+abbrev codon : Start → ℕ → Option Codon
 codon b = call_codon (transcript b) (window_from b.args.first b.args.bytes.now)
 
 -- what the region says of the base, and the answer there
-at : (b : Start) (g : Region) → g ≡ region_of (ltb 0 (length b.args.seg_starts.now)) b.args.place → AtRegion (oriented (transcript b)).exons b.args.p g
-at b = on b at_region b.args.ranges b.args.p b.args.place b.requires.fact_2
+at : (b : Start) (g : Region) → g ≡ region_of (ltb 0 (length b.args.transcript.now.segments.bases.starts.now)) b.args.place → AtRegion (oriented (transcript b)).exons b.args.p g
+at b = on_prepared b.args.transcript.now b.args.scalars b.args.cumulative_exons.now b.args.cumulative_cds.now b.args.selenocysteine_codons.now b.requires.prepared at_region b.args.ranges b.args.p b.args.place b.requires.located
 
-answer : (b : Start) (g : Region) → g ≡ region_of (ltb 0 (length b.args.seg_starts.now)) b.args.place
-    → region_called (call_table (transcript b)) (oriented (transcript b)) b.args.p (coding_byte b.args.model.strand b.args.alt_base) (codon b) b.args.place g
-    ≡ place_called (call_table (transcript b)) (oriented (transcript b)) b.args.p (coding_byte b.args.model.strand b.args.alt_base) (codon b) b.args.place
-answer b g e = on b called b.args.ranges b.args.p b.args.place b.requires.fact_2 g e (call_table (transcript b)) (coding_byte b.args.model.strand b.args.alt_base) (codon b)
+answer : (b : Start) (g : Region) → g ≡ region_of (ltb 0 (length b.args.transcript.now.segments.bases.starts.now)) b.args.place
+    → region_called (call_table (transcript b)) (oriented (transcript b)) b.args.p (coding_byte b.args.transcript.now.model.strand b.args.alt_base) (codon b) b.args.place g
+    ≡ place_called (call_table (transcript b)) (oriented (transcript b)) b.args.p (coding_byte b.args.transcript.now.model.strand b.args.alt_base) (codon b) b.args.place
+answer b g e = on_prepared b.args.transcript.now b.args.scalars b.args.cumulative_exons.now b.args.cumulative_cds.now b.args.selenocysteine_codons.now b.requires.prepared called b.args.ranges b.args.p b.args.place b.requires.located g e (call_table (transcript b)) (coding_byte b.args.transcript.now.model.strand b.args.alt_base) (codon b)
 
 pub intron_result-requires : goal.intron_result-requires
 intron_result-requires c =
-    on (goal.at.intron_result-requires c).Start index_fits _ (at (goal.at.intron_result-requires c).Start _ (sym c.in-Intron.is ∙ c.region_of-region.ensures))
+    on_prepared c.args.transcript.now c.args.scalars c.args.cumulative_exons.now c.args.cumulative_cds.now c.args.selenocysteine_codons.now c.requires.prepared index_fits _ (at (goal.at.intron_result-requires c).Start _ (sym c.in-Intron.is ∙ c.region_of-region.ensures))
 
 pub compute_cdna_position_exonic-cdna-requires : goal.compute_cdna_position_exonic-cdna-requires
 compute_cdna_position_exonic-cdna-requires c =
-    let h = on (goal.at.compute_cdna_position_exonic-cdna-requires c).Start exon_requires c.args.p _ (at (goal.at.compute_cdna_position_exonic-cdna-requires c).Start _ (sym c.in-Exon.is ∙ c.region_of-region.ensures)) in
-    record { ready = h.0; sums = h.1.0; fact = h.1.1 }
+    let h = on_prepared c.args.transcript.now c.args.scalars c.args.cumulative_exons.now c.args.cumulative_cds.now c.args.selenocysteine_codons.now c.requires.prepared exon_requires c.args.p _ (at (goal.at.compute_cdna_position_exonic-cdna-requires c).Start _ (sym c.in-Exon.is ∙ c.region_of-region.ensures)) in
+    record { ready = h.0; sums = h.1.0; held = h.1.1 }
 
 pub exon_result-requires : goal.exon_result-requires
 exon_result-requires c =
-    (on (goal.at.exon_result-requires c).Start index_fits _ (at (goal.at.exon_result-requires c).Start _ (sym c.in-Exon.is ∙ c.region_of-region.ensures)).0).0
+    (on_prepared c.args.transcript.now c.args.scalars c.args.cumulative_exons.now c.args.cumulative_cds.now c.args.selenocysteine_codons.now c.requires.prepared index_fits _ (at (goal.at.exon_result-requires c).Start _ (sym c.in-Exon.is ∙ c.region_of-region.ensures)).0).0
 
 pub annotate_cds_snv-requires : goal.annotate_cds_snv-requires
 annotate_cds_snv-requires c =
-    let h = on (goal.at.annotate_cds_snv-requires c).Start coding_requires c.args.ranges c.args.p c.args.place c.requires.fact_2 _ _ _ _ _ (sym c.in-Coding.is ∙ c.region_of-region.ensures) in
-    record { in_bounds = c.requires.fact_3.long; segments = h.0; segment_count_value = h.1.0; selenocysteine_count_bound = h.1.1.0; i_bound = h.1.1.1 }
+    let h = on_prepared c.args.transcript.now c.args.scalars c.args.cumulative_exons.now c.args.cumulative_cds.now c.args.selenocysteine_codons.now c.requires.prepared coding_requires c.args.ranges c.args.p c.args.place c.requires.located _ _ _ _ _ (sym c.in-Coding.is ∙ c.region_of-region.ensures) in
+    record { in_bounds = c.requires.letters.long; segments = h.0; segment_count_value = h.1.0; selenocysteine_count_bound = h.1.1.0; i_bound = h.1.1.1 }
 
 pub returns-in-Distal : goal.returns-in-Distal
 returns-in-Distal c = answer (goal.at.returns-in-Distal c).Start Region.Distal (sym c.in-Distal.is ∙ c.region_of-region.ensures)
 
 pub returns-in-Flank : goal.returns-in-Flank
 returns-in-Flank c =
-    ap Called.Answered (c.flank_result.ensures ∙ ap (λ (n : ℕ). flank_result c.args.place n) c.of.ensures)
+    ap Ok (c.flank_result.ensures ∙ ap (λ (n : ℕ). flank_result c.args.place n) c.of.ensures)
     ∙ answer (goal.at.returns-in-Flank c).Start _ (sym c.in-Flank.is ∙ c.region_of-region.ensures)
 
 pub returns-in-Intron : goal.returns-in-Intron
 returns-in-Intron c =
-    ap Called.Answered
-    (c.intron_result.ensures (oriented (transcript (goal.at.returns-in-Intron c).Start)) (on (goal.at.returns-in-Intron c).Start exon_count)
+    ap Ok
+    (c.intron_result.ensures (oriented (transcript (goal.at.returns-in-Intron c).Start)) (on_prepared c.args.transcript.now c.args.scalars c.args.cumulative_exons.now c.args.cumulative_cds.now c.args.selenocysteine_codons.now c.requires.prepared exon_count)
     ∙ ap (λ (n : ℕ). intron_result (oriented (transcript (goal.at.returns-in-Intron c).Start)) c.args.place c.in-Intron.index n)
     (c.with_mark-terms.ensures ∙ ap (with_mark c.in-Intron.mark) c.of-in-Intron.ensures))
     ∙ answer (goal.at.returns-in-Intron c).Start _ (sym c.in-Intron.is ∙ c.region_of-region.ensures)
@@ -79,8 +72,8 @@ returns-in-Intron c =
 pub returns-in-Exon : goal.returns-in-Exon
 returns-in-Exon c =
     let n = c.compute_cdna_position_exonic-cdna in
-    ap Called.Answered
-    (c.exon_result.ensures (oriented (transcript (goal.at.returns-in-Exon c).Start)) c.args.p (on (goal.at.returns-in-Exon c).Start exon_count) (on (goal.at.returns-in-Exon c).Start exon_cdna c.args.p n.result.0 n.ensures)
+    ap Ok
+    (c.exon_result.ensures (oriented (transcript (goal.at.returns-in-Exon c).Start)) c.args.p (on_prepared c.args.transcript.now c.args.scalars c.args.cumulative_exons.now c.args.cumulative_cds.now c.args.selenocysteine_codons.now c.requires.prepared exon_count) (on_prepared c.args.transcript.now c.args.scalars c.args.cumulative_exons.now c.args.cumulative_cds.now c.args.selenocysteine_codons.now c.requires.prepared exon_cdna c.args.p n.result.0 n.ensures)
     ∙ ap (λ (n : ℕ). exon_result (oriented (transcript (goal.at.returns-in-Exon c).Start)) c.args.p c.args.place c.in-Exon.index no_codon n)
     (c.with_mark-terms-in-Exon.ensures ∙ ap (with_mark c.in-Exon.mark) c.of-in-Exon.ensures))
     ∙ answer (goal.at.returns-in-Exon c).Start _ (sym c.in-Exon.is ∙ c.region_of-region.ensures)
@@ -89,6 +82,6 @@ pub returns-in-Coding : goal.returns-in-Coding
 unfolding oriented
 returns-in-Coding c =
     let e = sym c.in-Coding.is ∙ c.region_of-region.ensures in
-    c.annotate_cds_snv.ensures (call_table (transcript (goal.at.returns-in-Coding c).Start)) (oriented (transcript (goal.at.returns-in-Coding c).Start)) c.args.p c.requires.fact_3 (on (goal.at.returns-in-Coding c).Start exon_count) c.requires.fact_1.scalars_are refl (on (goal.at.returns-in-Coding c).Start segments_at) c.requires.fact_1.codons_are
-    (on (goal.at.returns-in-Coding c).Start coding_cdna c.args.ranges c.args.p c.args.place c.requires.fact_2 _ _ _ _ _ e)
+    c.annotate_cds_snv.ensures (call_table (transcript (goal.at.returns-in-Coding c).Start)) (oriented (transcript (goal.at.returns-in-Coding c).Start)) c.args.p c.requires.letters (on_prepared c.args.transcript.now c.args.scalars c.args.cumulative_exons.now c.args.cumulative_cds.now c.args.selenocysteine_codons.now c.requires.prepared exon_count) c.requires.prepared.scalars_are refl (on_prepared c.args.transcript.now c.args.scalars c.args.cumulative_exons.now c.args.cumulative_cds.now c.args.selenocysteine_codons.now c.requires.prepared segments_at) c.requires.prepared.codons_are
+    (on_prepared c.args.transcript.now c.args.scalars c.args.cumulative_exons.now c.args.cumulative_cds.now c.args.selenocysteine_codons.now c.requires.prepared coding_cdna c.args.ranges c.args.p c.args.place c.requires.located _ _ _ _ _ e)
     ∙ answer (goal.at.returns-in-Coding c).Start _ e

@@ -13,18 +13,18 @@ use Rattle.consequence.proofs.reading.cds_base.Goals.{Start}
 -- a law about an offset and the segment that holds it, at them
 abbrev on : (b : Start) → {P : Strand → List ℕ → List ℕ → List ℕ → ℕ → ℕ → ℕ → Type 0}
     → ((σ : Strand) (gs ge sums : List ℕ) (pad : ℕ) (s : Segments σ gs ge sums pad) (k i : ℕ) (h : Held sums (length gs) k i) → P σ gs ge sums pad k i)
-    → P b.args.strand b.args.starts.now b.args.ends.now b.args.sums.now b.args.pad b.args.k b.args.i
-on b f = f b.args.strand b.args.starts.now b.args.ends.now b.args.sums.now b.args.pad b.requires.segments b.args.k b.args.i b.requires.held
+    → P b.args.strand b.args.intervals.starts.now b.args.intervals.ends.now b.args.sums.now b.args.pad b.args.k b.args.i
+on b f = f b.args.strand b.args.intervals.starts.now b.args.intervals.ends.now b.args.sums.now b.args.pad b.requires.segments b.args.k b.args.i b.requires.held
 
 pub returns-then-k-pad : goal.returns-then-k-pad
 unfolding cds_base
 returns-then-k-pad c = let a = c.args in λ t h s. rw (h, lt-ltb a.k a.pad (omega arith))
 
-pub bounds-ends-i : goal.bounds-ends-i
-bounds-ends-i c = let e = c.requires.segments.ready.even in omega arith
+pub bounds-intervals-i-2 : goal.bounds-intervals-i-2
+bounds-intervals-i-2 c = let e = c.requires.segments.ready.even in omega arith
 
 pub bounds-sums-i : goal.bounds-sums-i
-bounds-sums-i c = let r = reach c.args.strand c.args.starts.now c.args.ends.now c.args.sums.now c.args.pad c.requires.segments in let h = c.requires.held.index in omega arith
+bounds-sums-i c = let r = reach c.args.strand c.args.intervals.starts.now c.args.intervals.ends.now c.args.sums.now c.args.pad c.requires.segments in let h = c.requires.held.index in omega arith
 
 pub overflow_sub-d : goal.overflow_sub-d
 overflow_sub-d c = on (goal.at.overflow_sub-d c).Start sum_le (omega arith)

@@ -1,179 +1,113 @@
-use Prim.Native.Nat.{ℕ, ◌+◌, ◌-◌, ◌%◌, ◌≤◌, ◌<◌}
-use mathlib.Core.Path.{◌≡◌, refl, sym, ◌∙◌, ap}
-use mathlib.Core.Bool.{cond}
-use native.Mathlib.Omega.{arith}
-use lib.ListN.{length, get_or}
+use Rattle.std.proofs.Common.{ℕ, ◌+◌, ◌-◌, ◌%◌, ◌<◌, ◌≡◌, refl, sym, ◌∙◌, ap, cond, Option, Some, length, get_or, arith}
 use lib.Dec.{ltb}
 use Rattle.transcript.specs.Orient.{Oriented}
-use Rattle.transcript.specs.code.Lent.{lent_exons}
 use Rattle.locate.specs.Place.{total_cds_length}
-use Rattle.consequence.specs.declared.FetchedBase.{FetchedBase}
 use Rattle.consequence.specs.Window.{window_from, coding_base}
-use Rattle.consequence.specs.Reading.{cds_base, length_at, codon_length}
+use Rattle.consequence.specs.Reading.{length_at, codon_length}
 use Rattle.consequence.specs.code.Segments.{Held}
-use Rattle.consequence.proofs.CodingBases.{reach, held_next}
+use Rattle.consequence.proofs.CodingBases.{held_next}
 use Rattle.consequence.proofs.CodonBases.{length_within, outside_first, one_base, outside_second, two_bases, outside_third, three_bases}
 use Rattle.consequence.proofs.reading.fetch_ref_codon.Goals as goal
-use Rattle.consequence.proofs.reading.fetch_ref_codon.Goals.{After-codon_length-len, After-next_segment-j, After-next_segment-l, After-segment_near-i, In-Base, In-Base-cds_base, Start}
+use Rattle.consequence.proofs.reading.fetch_ref_codon.Goals.{Start}
 
-abbrev back1 : After-codon_length-len → Start
-back1 c = c.before.before.before.before.before.before
+module _ (b : Start) where
+  abbrev view : ℕ → Option ℕ
+  view = coding_base b.args.strand (window_from b.args.first b.args.bytes.now)
 
-abbrev back2 : In-Base → After-codon_length-len
-back2 c = record { before = c.before.before.before.before; type_inv = record { bytes = c.type_inv.bytes; sums = c.type_inv.sums; ends = c.type_inv.ends; starts = c.type_inv.starts } }
+  -- the offset of the codon's first base
+  abbrev from : ℕ
+  from = b.args.k - b.args.k % 3
 
-abbrev back3 : In-Base-cds_base → In-Base
-back3 c = record { before = c.before.before.before.before.before; type_inv = record { bytes = c.type_inv.bytes; sums = c.type_inv.sums; ends = c.type_inv.ends; starts = c.type_inv.starts } }
+  -- segment i holds a padded offset
+  abbrev HeldAt : ℕ → ℕ → Type 0
+  HeldAt k i = Held b.args.sums.now (length b.args.intervals.starts.now) k i
 
-abbrev back4 : After-segment_near-i → After-codon_length-len
-back4 c = record { before = c.before.before; type_inv = record { bytes = c.type_inv.bytes; sums = c.type_inv.sums; ends = c.type_inv.ends; starts = c.type_inv.starts } }
+  -- the segment that the search finds
+  held : (i : ℕ) → Held b.args.sums.now b.args.scalars.segment_count from i → HeldAt from i
+  held i h = rw b.requires.segment_count_value at h
 
-abbrev back5 : After-next_segment-j → After-codon_length-len
-back5 c = record { before = c.before.before.before.before.before.before; type_inv = record { bytes = c.type_inv.bytes; sums = c.type_inv.sums; ends = c.type_inv.ends; starts = c.type_inv.starts } }
+  -- the length of the codon, and that its bases lie within the CDS
+  module _ (n : ℕ) (e : n ≡ length_at b.args.scalars.total_cds_length b.args.k) where
+    length_is : (t : Oriented) → total_cds_length t ≡ b.args.scalars.total_cds_length → n ≡ codon_length t b.args.k
+    length_is t w = e ∙ ap (λ (m : ℕ). length_at m b.args.k) (sym w)
 
-abbrev back6 : After-next_segment-j → After-segment_near-i
-back6 c = record { before = c.before.before.before.before.before; type_inv = record { bytes = c.type_inv.bytes; sums = c.type_inv.sums; ends = c.type_inv.ends; starts = c.type_inv.starts } }
+    within : (d : ℕ) → d < n → from + d < get_or b.args.sums.now (length b.args.intervals.starts.now) 0
+    within d l =
+        let w = length_within b.args.scalars.total_cds_length b.args.k b.requires.total_cds_length_value.1 in
+        let t = b.requires.total_cds_length_value.0 in
+        omega arith
 
-abbrev back7 : After-next_segment-l → After-codon_length-len
-back7 c = record { before = c.before.before.before.before.before.before.before.before.before.before; type_inv = record { bytes = c.type_inv.bytes; sums = c.type_inv.sums; ends = c.type_inv.ends; starts = c.type_inv.starts } }
+    -- j is i, or the segment behind it where that one begins at an offset from the first base
+    abbrev IsNext : ℕ → ℕ → ℕ → Type 0
+    IsNext d i j = j ≡ cond (ltb (from + d) (get_or b.args.sums.now (i + 1) 0)) i (i + 1)
 
-abbrev back8 : After-next_segment-l → After-next_segment-j
-back8 c = record { before = c.before.before.before.before.before; type_inv = record { bytes = c.type_inv.bytes; sums = c.type_inv.sums; ends = c.type_inv.ends; starts = c.type_inv.starts } }
+    -- the segments that the two steps find
+    next : (k d i j : ℕ) → HeldAt k i → from + d ≡ k + 1 → d < n → IsNext d i j → HeldAt (from + d) j
+    next k d i j h e l s =
+        held_next b.args.strand b.args.intervals.starts.now b.args.intervals.ends.now b.args.sums.now b.args.scalars.cds_start_pad b.requires.segments
+        k i h (from + d) j e (within d l) s
 
--- where the steps began: the whole, the second base, the third
-abbrev start : After-codon_length-len → Start
-start c = (back1 c)
+    held_second : (i j : ℕ) → Held b.args.sums.now b.args.scalars.segment_count from i → 1 < n → IsNext 1 i j → HeldAt (from + 1) j
+    held_second i j h l s = next from 1 i j (held i h) refl l s
 
-abbrev one : In-Base → After-codon_length-len
-one c = (back2 c)
+    held_third :
+        (i j m : ℕ) → Held b.args.sums.now b.args.scalars.segment_count from i → 2 < n → IsNext 1 i j → IsNext 2 j m →
+        HeldAt (from + 2) m
+    held_third i j m h l s r = next (from + 1) 2 j m (held_second i j h (omega arith) s) (omega arith) l r
 
-abbrev two : In-Base-cds_base → In-Base
-two c = (back3 c)
+pub cds_base-requires-2-clause-held : goal.cds_base-requires-2-clause-held
+cds_base-requires-2-clause-held c =
+    held_second (goal.at.cds_base-requires-2-clause-held c).Start c.codon_length-len.result c.codon_length-len.ensures
+    c.segment_near-i.result c.next_segment-j.result c.segment_near-i.ensures (omega arith) c.next_segment-j.ensures
 
-abbrev view : Start → ℕ → FetchedBase
-view b = coding_base b.args.strand (window_from b.args.first b.args.bytes.now)
+pub cds_base-requires-3-clause-held : goal.cds_base-requires-3-clause-held
+cds_base-requires-3-clause-held c =
+    held_third (goal.at.cds_base-requires-3-clause-held c).Start c.codon_length-len.result c.codon_length-len.ensures
+    c.segment_near-i.result c.next_segment-j.result c.next_segment-l.result c.segment_near-i.ensures (omega arith)
+    c.next_segment-j.ensures c.next_segment-l.ensures
 
--- the offset of the codon's first base
-abbrev from : Start → ℕ
-from b = b.args.k - b.args.k % 3
-
--- the length of the codon, and that its bases lie within the CDS
-length_is : (c : After-codon_length-len) (t : Oriented) → total_cds_length t ≡ (start c).args.scalars.total_cds_length → c.codon_length-len.result ≡ codon_length t (start c).args.k
-length_is c t w = c.codon_length-len.ensures ∙ ap (λ (n : ℕ). length_at n (start c).args.k) (sym w)
-
-fits : (c : After-codon_length-len) → from (start c) + c.codon_length-len.result ≤ (start c).args.scalars.total_cds_length
-fits c =
-    let b = start c in
-    let w = length_within b.args.scalars.total_cds_length b.args.k b.requires.total_cds_length_value.1 in
-    let e = c.codon_length-len.ensures in
-    omega arith
-
-within : (c : After-codon_length-len) (d : ℕ) → d < c.codon_length-len.result → from (start c) + d < get_or (start c).args.sums.now (length (start c).args.starts.now) 0
-within c d l = let w = fits c in let t = (start c).requires.total_cds_length_value.0 in omega arith
-
--- segment i holds a padded offset
-abbrev HeldAt : Start → ℕ → ℕ → Type 0
-HeldAt b k i = Held b.args.sums.now (length b.args.starts.now) k i
-
-next : (b : Start) (k i : ℕ) → HeldAt b k i → (m j : ℕ) → m ≡ k + 1 → m < get_or b.args.sums.now (length b.args.starts.now) 0 → j ≡ cond (ltb m (get_or b.args.sums.now (i + 1) 0)) i (i + 1) → HeldAt b m j
-next b = held_next b.args.strand b.args.starts.now b.args.ends.now b.args.sums.now b.args.scalars.cds_start_pad b.requires.segments
-
--- the segments that the search and the two steps find
-held : (c : After-segment_near-i) → HeldAt (start (back4 c)) (from (start (back4 c))) c.segment_near-i.result
-held c = rw (start (back4 c)).requires.segment_count_value at c.segment_near-i.ensures
-
-held_second : (c : After-next_segment-j) → HeldAt (start (back5 c)) (from (start (back5 c)) + 1) c.next_segment-j.result
-held_second c =
-    let b = start (back5 c) in
-    next b (from b) c.segment_near-i.result (held (back6 c)) (from b + 1) c.next_segment-j.result refl (within (back5 c) 1 (omega arith)) c.next_segment-j.ensures
-
-held_third : (c : After-next_segment-l) → HeldAt (start (back7 c)) (from (start (back7 c)) + 2) c.next_segment-l.result
-held_third c =
-    let b = start (back7 c) in
-    next b (from b + 1) c.next_segment-j.result (held_second (back8 c)) (from b + 2) c.next_segment-l.result (omega arith) (within (back7 c) 2 (omega arith)) c.next_segment-l.ensures
-
--- the bases read
-abbrev Reads : Start → ℕ → FetchedBase → Type 0
-Reads b k x = (t : Oriented) → t.pad ≡ b.args.scalars.cds_start_pad → t.segments ≡ lent_exons b.args.strand b.args.starts.now b.args.ends.now → cds_base t (view b) k ≡ x
-
-first_is : (c : In-Base) → Reads (start (one c)) (from (start (one c))) (FetchedBase.Base c.in-Base.x)
-first_is c t h s = sym (c.cds_base.ensures t h s) ∙ c.in-Base.is
-
-second_is : (c : In-Base-cds_base) → Reads (start (one (two c))) (from (start (one (two c))) + 1) (FetchedBase.Base c.in-Base-cds_base.y)
-second_is c t h s = sym (c.cds_base-2.ensures t h s) ∙ c.in-Base-cds_base.is
-
-pub segment_near-i-requires : goal.segment_near-i-requires
-segment_near-i-requires c =
-    let b = start (goal.at.segment_near-i-requires c).After-codon_length-len in
-    let r = b.requires.segments.ready in
-    let n = b.requires.segment_count_value in
-    let m = ap (λ (i : ℕ). get_or b.args.sums.now i 0) n in
-    let e = b.requires.total_cds_length_value in
-    let w = reach b.args.strand b.args.starts.now b.args.ends.now b.args.sums.now b.args.scalars.cds_start_pad b.requires.segments in
-    (omega arith, omega arith, omega arith, omega arith)
-
-pub cds_base-requires : goal.cds_base-requires
-cds_base-requires c = record { segments = (start (goal.at.cds_base-requires c).After-codon_length-len).requires.segments; held = held (goal.at.cds_base-requires c).After-segment_near-i }
-
-pub returns-in_default : goal.returns-in_default
-returns-in_default c =
-    λ t h s w. outside_first t (view (start (goal.at.returns-in_default c).After-codon_length-len)) (start (goal.at.returns-in_default c).After-codon_length-len).args.k c.codon_length-len.result (length_is (goal.at.returns-in_default c).After-codon_length-len t w) (sym (c.cds_base.ensures t h s) ∙ c.in_default.is)
+pub returns-in_err-x : goal.returns-in_err-x
+returns-in_err-x c = λ t h s w.
+    let b = (goal.at.returns-in_err-x c).Start in
+    let n = c.codon_length-len in
+    c.from_residual.ensures
+    ∙ outside_first t (view b) c.args.k n.result (length_is b n.result n.ensures t w) (sym (c.cds_base.ensures t h s) ∙ c.in_err-x.was)
 
 pub returns-then-len-lt2 : goal.returns-then-len-lt2
-returns-then-len-lt2 c =
-    let l = one (goal.at.returns-then-len-lt2 c).In-Base in
-    λ t h s w. c.codon_of.ensures ∙ one_base t (view (start l)) (start l).args.k l.codon_length-len.result (length_is l t w) _ (first_is (goal.at.returns-then-len-lt2 c).In-Base t h s) (omega arith)
+returns-then-len-lt2 c = λ t h s w.
+    let b = (goal.at.returns-then-len-lt2 c).Start in
+    let n = c.codon_length-len in
+    ap Some c.codon_of.ensures
+    ∙ one_base t (view b) c.args.k n.result (length_is b n.result n.ensures t w) _ (sym (c.cds_base.ensures t h s) ∙ c.in_ok-x.was) (omega arith)
 
-pub next_segment-j-requires : goal.next_segment-j-requires
-next_segment-j-requires c =
-    let l = one (goal.at.next_segment-j-requires c).In-Base in
-    let b = start l in
-    let h = (held (goal.at.next_segment-j-requires c).After-segment_near-i).index in
-    let r = b.requires.segments.ready.few in
-    let w = reach b.args.strand b.args.starts.now b.args.ends.now b.args.sums.now b.args.scalars.cds_start_pad b.requires.segments in
-    (omega arith, omega arith)
-
-pub cds_base-requires-2 : goal.cds_base-requires-2
-cds_base-requires-2 c = record { segments = (start (goal.at.cds_base-requires-2 c).After-codon_length-len).requires.segments; held = held_second (goal.at.cds_base-requires-2 c).After-next_segment-j }
-
-pub returns-in_default-cds_base : goal.returns-in_default-cds_base
-returns-in_default-cds_base c =
-    let l = one (goal.at.returns-in_default-cds_base c).In-Base in
-    λ t h s w. outside_second t (view (start l)) (start l).args.k l.codon_length-len.result (length_is l t w) _ (first_is (goal.at.returns-in_default-cds_base c).In-Base t h s) (omega arith) (sym (c.cds_base-2.ensures t h s) ∙ c.in_default-cds_base.is)
+pub returns-in_err-y : goal.returns-in_err-y
+returns-in_err-y c = λ t h s w.
+    let b = (goal.at.returns-in_err-y c).Start in
+    let n = c.codon_length-len in
+    c.from_residual-in_err-y.ensures
+    ∙ outside_second t (view b) c.args.k n.result (length_is b n.result n.ensures t w) _ (sym (c.cds_base.ensures t h s) ∙ c.in_ok-x.was) (omega arith)
+    (sym (c.cds_base-2.ensures t h s) ∙ c.in_err-y.was)
 
 pub returns-then-len-lt3 : goal.returns-then-len-lt3
-returns-then-len-lt3 c =
-    let x = two (goal.at.returns-then-len-lt3 c).In-Base-cds_base in
-    let l = one x in
-    λ t h s w. c.codon_of-then-len-lt3.ensures ∙ two_bases t (view (start l)) (start l).args.k l.codon_length-len.result (length_is l t w) _ (first_is x t h s) _ (second_is (goal.at.returns-then-len-lt3 c).In-Base-cds_base t h s) (omega arith) (omega arith)
+returns-then-len-lt3 c = λ t h s w.
+    let b = (goal.at.returns-then-len-lt3 c).Start in
+    let n = c.codon_length-len in
+    ap Some c.codon_of-then-len-lt3.ensures
+    ∙ two_bases t (view b) c.args.k n.result (length_is b n.result n.ensures t w) _ (sym (c.cds_base.ensures t h s) ∙ c.in_ok-x.was)
+    _ (sym (c.cds_base-2.ensures t h s) ∙ c.in_ok-y.was) (omega arith) (omega arith)
 
-pub overflow_add-from-3 : goal.overflow_add-from-3
-overflow_add-from-3 c = let l = one (two (goal.at.overflow_add-from-3 c).In-Base-cds_base) in let b = start l in let w = fits l in omega arith
-
-pub next_segment-l-requires : goal.next_segment-l-requires
-next_segment-l-requires c =
-    let h = held_second (goal.at.next_segment-l-requires c).After-next_segment-j in
-    let b = start (one (two (goal.at.next_segment-l-requires c).In-Base-cds_base)) in
-    let i = h.index in
-    let r = b.requires.segments.ready.few in
-    let w = reach b.args.strand b.args.starts.now b.args.ends.now b.args.sums.now b.args.scalars.cds_start_pad b.requires.segments in
-    (omega arith, omega arith)
-
-pub overflow_add-from-4 : goal.overflow_add-from-4
-overflow_add-from-4 c = let l = one (two (goal.at.overflow_add-from-4 c).In-Base-cds_base) in let b = start l in let w = fits l in omega arith
-
-pub cds_base-requires-3 : goal.cds_base-requires-3
-cds_base-requires-3 c = record { segments = (start (goal.at.cds_base-requires-3 c).After-codon_length-len).requires.segments; held = held_third (goal.at.cds_base-requires-3 c).After-next_segment-l }
-
-pub returns-in_default-cds_base-2 : goal.returns-in_default-cds_base-2
-returns-in_default-cds_base-2 c =
-    let x = two (goal.at.returns-in_default-cds_base-2 c).In-Base-cds_base in
-    let l = one x in
-    λ t h s w. outside_third t (view (start l)) (start l).args.k l.codon_length-len.result (length_is l t w) _ (first_is x t h s) _ (second_is (goal.at.returns-in_default-cds_base-2 c).In-Base-cds_base t h s) (omega arith) (sym (c.cds_base-3.ensures t h s) ∙ c.in_default-cds_base-2.is)
+pub returns-in_err-z : goal.returns-in_err-z
+returns-in_err-z c = λ t h s w.
+    let b = (goal.at.returns-in_err-z c).Start in
+    let n = c.codon_length-len in
+    c.from_residual-in_err-z.ensures
+    ∙ outside_third t (view b) c.args.k n.result (length_is b n.result n.ensures t w) _ (sym (c.cds_base.ensures t h s) ∙ c.in_ok-x.was)
+    _ (sym (c.cds_base-2.ensures t h s) ∙ c.in_ok-y.was) (omega arith) (sym (c.cds_base-3.ensures t h s) ∙ c.in_err-z.was)
 
 pub returns : goal.returns
-returns c =
-    let n = c.if-len-lt3.false in
-    let x = two (goal.at.returns c).In-Base-cds_base in
-    let l = one x in
-    λ t h s w. c.codon_of-2.ensures ∙ three_bases t (view (start l)) (start l).args.k l.codon_length-len.result (length_is l t w) _ (first_is x t h s) _ (second_is (goal.at.returns c).In-Base-cds_base t h s) _ (omega arith) (sym (c.cds_base-3.ensures t h s) ∙ c.in-Base-cds_base-2.is)
+returns c = λ t h s w.
+    let b = (goal.at.returns c).Start in
+    let n = c.codon_length-len in
+    ap Some c.codon_of-2.ensures
+    ∙ three_bases t (view b) c.args.k n.result (length_is b n.result n.ensures t w) _ (sym (c.cds_base.ensures t h s) ∙ c.in_ok-x.was)
+    _ (sym (c.cds_base-2.ensures t h s) ∙ c.in_ok-y.was) _ (omega arith) (sym (c.cds_base-3.ensures t h s) ∙ c.in_ok-z.was)

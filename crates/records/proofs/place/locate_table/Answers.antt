@@ -9,9 +9,9 @@ use Rattle.records.proofs.place.locate_table.Goals as goal
 pub returns-then-n-gt512 : goal.returns-then-n-gt512
 returns-then-n-gt512 c =
     let a = c.args in
-    λ xs t. place_refused a.model xs a.seg_phases.now a.seg_exons.now a.seg_starts.now a.seg_ends.now a.selenocysteine.now a.table t a.chromosome a.start a.end (omega arith)
+    λ xs t. place_refused a.model xs a.segments.phases.now a.segments.exon_indexes.now a.segments.bases.starts.now a.segments.bases.ends.now a.selenocysteine.now a.table.now t a.chromosome a.start a.end (omega arith)
 
 pub returns : goal.returns
 returns c =
     let a = c.args in
-    λ xs k. subst (λ (t : Transcript). c.locate_variant.result ≡ locate_variant source_ranges t a.chromosome a.start a.end) (table_lent a.model xs a.seg_phases.now a.seg_exons.now a.seg_starts.now a.seg_ends.now a.selenocysteine.now a.table k (omega arith)) c.locate_variant.ensures
+    λ xs k. subst (λ (t : Transcript). c.locate_variant.result ≡ locate_variant source_ranges t a.chromosome a.start a.end) (table_lent a.model xs a.segments.phases.now a.segments.exon_indexes.now a.segments.bases.starts.now a.segments.bases.ends.now a.selenocysteine.now a.table.now k (omega arith)) c.locate_variant.ensures

@@ -1,4 +1,4 @@
-use Rattle.std.proofs.Common.{◌-◌, ◌≡◌, ◌≤◌, length}
+use Rattle.std.proofs.Common.{◌≡◌, ◌≤◌, length}
 use Rattle.common.proofs.Filling.{front}
 use Rattle.records.specs.code.Table.{exon_starts_of, exon_ends_of}
 use Rattle.records.proofs.table.table_of.Given as goal
@@ -10,6 +10,3 @@ invariant-loop-i l = record {
   starting : l.starts ≡ front (exon_starts_of l.exons) 512 l.i;
   ending : l.ends ≡ front (exon_ends_of l.exons) 512 l.i;
 }
-
-abbrev pub decreases-loop-i : goal.decreases-loop-i
-decreases-loop-i l = l.count - l.i
