@@ -1,25 +1,28 @@
 -- The transcript at a place, in lent lists.
 -- Assumes nothing.
-use Prim.Native.Nat.{ℕ, zero, suc, ◌-◌, ◌≤◌, ◌<◌, min}
+use Prim.Native.Nat.{ℕ, zero, suc, ◌-◌, ◌≤◌, ◌<◌}
 use mathlib.Core.Path.{◌≡◌, refl, sym, ◌∙◌, ap}
 use mathlib.Core.List.{List, [], ◌∷◌, map, append-nil}
 use native.Mathlib.Omega.{arith}
-use lib.ListN.{length, get_or, take, drop, replicate, length-map, length-append, length-replicate}
+use lib.ListN.{length, take, drop, replicate, length-map, length-append, length-replicate}
 use lib.Seq.{drop-nil}
 use borrow.Author.Tests.{lt-ltb, le-ltb}
 use Rattle.common.specs.Lists.{concat}
 use Rattle.common.specs.Stored.{stored}
 use Rattle.transcript.specs.Transcript.{Transcript}
-use Rattle.deck.specs.declared.DeckAnswer.TheVariants.{Accepted, Refused}
+use Rattle.std.specs.Prelude.{Some, None, Ok, Err, Result, option_map, slice_get}
+use Rattle.deck.specs.declared.DeckRefusal.{DeckRefusal}
+use Rattle.deck.specs.declared.Table.{Table}
+use Rattle.deck.specs.Refused.{refused_at}
 use Rattle.deck.specs.declared.rows.Rows.{Rows}
 use Rattle.deck.specs.Records.{mark_of, word}
 use Rattle.deck.specs.Walk.{walk_deck}
 use Rattle.deck.specs.Deck.{read_deck, deck_transcripts}
 use Rattle.deck.specs.code.Order.{order_of}
-use Rattle.deck.specs.code.Table.{DeckTable, column, number_of, rows_at, transcript_rows, transcript_in, transcript_at, table_transcripts, table_of, deck_table}
+use Rattle.deck.specs.code.Table.{column, number_of, rows_at, transcript_rows, transcript_in, transcript_at, table_transcripts, table_of, deck_table}
 use Rattle.deck.proofs.Accepted.{few_rows, sound_deck, table_holds}
-use Rattle.contents.specs.declared.Content.{Content}
 use Rattle.contents.specs.Contents.{placed, place_content, chosen}
+use Rattle.contents.specs.code.Places.{row_of}
 use Rattle.contents.specs.code.Columns.{Columns}
 
 -- one list put
@@ -28,62 +31,68 @@ pub put_one : (t : Transcript) (list : Transcript → List ℕ) (before : List �
 unfolding concat
 put_one t list before e q = e ∙ ap (stored before 0) (q ∙ sym (append-nil (list t)))
 
--- or none
-pub put_none : (ts : List Transcript) (list : Transcript → List ℕ) (before : List ℕ) → ts ≡ [] → before ≡ stored before 0 (concat (map list ts))
-unfolding concat
-put_none ts list before e = rw e
-
--- and of the list that is chosen
-pub put_same : {us ts : List Transcript} (list : Transcript → List ℕ) (before : List ℕ) {after : List ℕ}
-    → ts ≡ us → after ≡ stored before 0 (concat (map list us)) → after ≡ stored before 0 (concat (map list ts))
-put_same list before e h = rw e h
-
 drop_past : {A : Type 0} (k : ℕ) (xs : List A) → length xs ≤ k → drop k xs ≡ []
 drop_past zero [] h = refl
 drop_past zero (x ∷ xs) h = absurd (omega arith)
 drop_past (suc k) [] h = refl
 drop_past (suc k) (x ∷ xs) h = drop_past k xs (omega arith)
 
-mapped_at : {A : Type 0} (f : ℕ → A) (xs : List ℕ) (k d : ℕ) → k < length xs → take 1 (drop k (map f xs)) ≡ f (get_or xs k d) ∷ []
-mapped_at f [] k d h = absurd (omega arith)
-mapped_at f (x ∷ xs) zero d h = refl
-mapped_at f (x ∷ xs) (suc k) d h = mapped_at f xs k d (omega arith)
+mapped_at : {A : Type 0} (f : ℕ → A) (xs : List ℕ) (k : ℕ) {x : ℕ} → slice_get xs k ≡ Some x → take 1 (drop k (map f xs)) ≡ f x ∷ []
+mapped_at f [] k h = cc
+mapped_at f (y ∷ xs) zero {x} h = let e : y ≡ x = cc in rw e
+mapped_at f (y ∷ xs) (suc k) h = mapped_at f xs k h
 
-module _ (t : DeckTable) (place : ℕ) {n : ℕ} (count : n ≡ length (transcript_rows t)) where
-  all : length (table_transcripts t) ≡ n
-  all = length-map (transcript_rows t) (transcript_at t) ∙ sym count
+-- an element looked up and mapped: it lies behind the end, or in the list
+behind : {A B : Type 0} (f : A → B) (xs : List A) (k : ℕ) → None ≡ option_map f (slice_get xs k) → length xs ≤ k
+behind f [] k h = omega arith
+behind f (x ∷ xs) zero h = cc
+behind f (x ∷ xs) (suc k) h = let l = behind f xs k h in omega arith
 
-  module _ (past : n ≤ place) where
-    pub none_placed : Content.Refused 25 0 ≡ placed (table_transcripts t) place
-    none_placed = let h = all in rw (le-ltb place (length (table_transcripts t)) (omega arith))
+within : {A B : Type 0} (f : A → B) (xs : List A) (k : ℕ) {y : B} → Some y ≡ option_map f (slice_get xs k)
+    → (x : A) × (slice_get xs k ≡ Some x) × (y ≡ f x) × (k < length xs)
+within f [] k h = cc
+within f (x ∷ xs) zero h = (x, refl, cc, omega arith)
+within f (x ∷ xs) (suc k) h = let w = within f xs k h in (w.0, w.1, w.2, (let l = w.3 in omega arith))
 
-    pub none_there : take 1 (drop place (table_transcripts t)) ≡ []
-    none_there = let h = all in ap (take 1) (drop_past place (table_transcripts t) (omega arith))
+-- no transcript stands at a place
+module _ (t : Table) (place : ℕ) (none : None ≡ row_of t place) where
+  past : length (table_transcripts t) ≤ place
+  past =
+      let h = length-map (transcript_rows t) (transcript_at t) in
+      let b = behind (λ k. (k, rows_at t.kinds k)) (transcript_rows t) place none in
+      omega arith
 
-  module _ (within : place < n) where
-    pub one_placed : Content.Held n ≡ placed (table_transcripts t) place
-    one_placed = let h = all in rw (lt-ltb place (length (table_transcripts t)) (omega arith), h)
+  pub none_placed : Err (refused_at 25 0) ≡ placed (table_transcripts t) place
+  none_placed = rw (le-ltb place (length (table_transcripts t)) past)
 
-    pub one_there : {k : ℕ} {r : Rows} → k ≡ get_or (transcript_rows t) place 4096 → k ≤ 4096 → r ≡ rows_at t.kinds (min k 4096)
-        → take 1 (drop place (table_transcripts t)) ≡ transcript_in t.marks t.ids t.numbers t.starts t.ends k r ∷ []
-    one_there {k} {r} e low er =
-        let m : min k 4096 ≡ k = omega arith in
-        mapped_at (transcript_at t) (transcript_rows t) place 4096 (omega arith) ∙ rw (← e, er, m)
+  pub none_there : take 1 (drop place (table_transcripts t)) ≡ []
+  none_there = ap (take 1) (drop_past place (table_transcripts t) past)
+
+-- one does, with these rows
+module _ (t : Table) (place : ℕ) {k : ℕ} {r : Rows} (one : Some (k, r) ≡ row_of t place) where
+  found : (x : ℕ) × (slice_get (transcript_rows t) place ≡ Some x) × ◌≡◌ {A = ℕ × Rows} (k, r) (x, rows_at t.kinds x) × (place < length (transcript_rows t))
+  found = within (λ k. (k, rows_at t.kinds k)) (transcript_rows t) place one
+
+  pub one_placed : {n : ℕ} → n ≡ length (transcript_rows t) → Ok n ≡ placed (table_transcripts t) place
+  one_placed {n} e =
+      let h = length-map (transcript_rows t) (transcript_at t) in
+      let f = found in
+      rw (lt-ltb place (length (table_transcripts t)) (omega arith), h, e)
+
+  pub one_there : take 1 (drop place (table_transcripts t)) ≡ transcript_in t k r ∷ []
+  one_there = mapped_at (transcript_at t) (transcript_rows t) place found.1 ∙ ap (λ (p : ℕ × Rows). transcript_in t p.0 p.1 ∷ []) (sym found.2)
 
 -- a deck that is refused
-module _ (d : List ℕ) (k : ℕ) {n i : ℕ} (h : read_deck d ≡ Refused n i) where
-  pub refused_place : Content.Refused n i ≡ place_content d k
-  refused_place = rw h
-
+module _ (d : List ℕ) (k : ℕ) {e : DeckRefusal} (h : Err e ≡ read_deck d) where
   pub refused_chosen : chosen d k ≡ []
-  refused_chosen = rw h (ap (take 1) (drop-nil k))
+  refused_chosen = rw (← h) (ap (take 1) (drop-nil k))
 
 -- a deck that is accepted, with its table
-module _ (d : List ℕ) (h : read_deck d ≡ Accepted) {t : DeckTable} (e : t ≡ deck_table d) where
+module _ (d : List ℕ) (h : read_deck d ≡ Ok tt) {t : Table} (e : t ≡ deck_table d) where
   transcripts : table_transcripts t ≡ deck_transcripts d
   transcripts = ap table_transcripts e ∙ table_holds d h
 
-  pub accepted_place : (k : ℕ) {c : Content} → c ≡ placed (table_transcripts t) k → c ≡ place_content d k
+  pub accepted_place : (k : ℕ) {c : Result ℕ DeckRefusal} → c ≡ placed (table_transcripts t) k → c ≡ place_content d k
   accepted_place k q = q ∙ rw (h, transcripts)
 
   pub accepted_chosen : (k : ℕ) → chosen d k ≡ take 1 (drop k (table_transcripts t))
@@ -100,10 +109,10 @@ module _ (d : List ℕ) (h : read_deck d ≡ Accepted) {t : DeckTable} (e : t �
   unfolding deck_table
   table_is = e ∙ rw (sound_deck d h).1
 
-  pub accepted_columns : Columns t.marks t.numbers t.starts t.ends
+  pub accepted_columns : Columns t
   accepted_columns = record {
-    of_marks = ap (λ (u : DeckTable). length u.marks) table_is ∙ column_length (mark_of d);
-    of_numbers = ap (λ (u : DeckTable). length u.numbers) table_is ∙ column_length (number_of d);
-    of_starts = ap (λ (u : DeckTable). length u.starts) table_is ∙ column_length (λ i. word d i 4);
-    of_ends = ap (λ (u : DeckTable). length u.ends) table_is ∙ column_length (λ i. word d i 8);
+    of_marks = ap (λ (u : Table). length u.marks) table_is ∙ column_length (mark_of d);
+    of_numbers = ap (λ (u : Table). length u.numbers) table_is ∙ column_length (number_of d);
+    of_starts = ap (λ (u : Table). length u.starts) table_is ∙ column_length (λ i. word d i 4);
+    of_ends = ap (λ (u : Table). length u.ends) table_is ∙ column_length (λ i. word d i 8);
   }

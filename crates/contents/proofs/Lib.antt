@@ -1,6 +1,5 @@
 pub mod Collecting
 pub mod Storing
-pub mod Places
 pub mod Parted
 pub mod Chosen
 pub mod NumbersGiven

@@ -8,11 +8,12 @@ use native.Mathlib.Omega.{arith}
 use lib.ListN.{length, length-map}
 use borrow.Author.Tests.{eq-eqb}
 use Rattle.transcript.specs.Transcript.{Transcript, exons_of, segments_of, even_lists}
+use Rattle.deck.specs.declared.Table.{Table}
 use Rattle.deck.specs.declared.rows.Rows.{Rows}
 use Rattle.deck.specs.code.Table.{part, model_in, transcript_in}
 use Rattle.deck.proofs.PartEnds.{part_length}
-use Rattle.contents.specs.Contents.{scalar_words, scalars_of, exon_starts, exon_ends, segment_phases, segment_exons, segment_starts, segment_ends, bases_of}
 use Rattle.contents.specs.code.Columns.{Columns}
+use Rattle.contents.specs.Contents.{scalar_words, scalars_of, exon_starts, exon_ends, segment_phases, segment_exons, segment_starts, segment_ends, bases_of}
 
 -- lists lent apart, joined and taken apart again
 starts_of : (ss es : List ℕ) → length ss ≡ length es → map (λ x. x.genomic_start) (exons_of ss es) ≡ ss
@@ -45,48 +46,48 @@ segments_of_lem (p ∷ ps) (i ∷ is) (s ∷ ss) (e ∷ es) a b c =
     let r = segments_of_lem ps is ss es (omega arith) (omega arith) (omega arith) in
     (ap (λ (l : List ℕ). p ∷ l) r.0, ap (λ (l : List ℕ). i ∷ l) r.1, ap (λ (l : List ℕ). s ∷ l) r.2, ap (λ (l : List ℕ). e ∷ l) r.3)
 
-module _ {marks numbers starts ends : List ℕ} (k : ℕ) (r : Rows) (c : Columns marks numbers starts ends) where
-  exon_lengths : length (part (k + 1) r.exons starts) ≡ length (part (k + 1) r.exons ends)
-  exon_lengths = part_length starts c.of_starts (k + 1) r.exons ∙ sym (part_length ends c.of_ends (k + 1) r.exons)
+module _ {t : Table} (k : ℕ) (r : Rows) (c : Columns t) where
+  exon_lengths : length (part (k + 1) r.exons t.starts) ≡ length (part (k + 1) r.exons t.ends)
+  exon_lengths = part_length t.starts c.of_starts (k + 1) r.exons ∙ sym (part_length t.ends c.of_ends (k + 1) r.exons)
 
-  same_length : (l : List ℕ) → length l ≡ 4096 → length (part r.bounds r.segments starts) ≡ length (part r.bounds r.segments l)
-  same_length l e = part_length starts c.of_starts r.bounds r.segments ∙ sym (part_length l e r.bounds r.segments)
+  same_length : (l : List ℕ) → length l ≡ 4096 → length (part r.bounds r.segments t.starts) ≡ length (part r.bounds r.segments l)
+  same_length l e = part_length t.starts c.of_starts r.bounds r.segments ∙ sym (part_length l e r.bounds r.segments)
 
-  even : even_lists (part (k + 1) r.exons starts) (part (k + 1) r.exons ends) (part r.bounds r.segments marks) (part r.bounds r.segments numbers)
-      (part r.bounds r.segments starts) (part r.bounds r.segments ends) ≡ true
+  even : even_lists (part (k + 1) r.exons t.starts) (part (k + 1) r.exons t.ends) (part r.bounds r.segments t.marks) (part r.bounds r.segments t.numbers)
+      (part r.bounds r.segments t.starts) (part r.bounds r.segments t.ends) ≡ true
   even = rw (
-    eq-eqb (length (part (k + 1) r.exons starts)) (length (part (k + 1) r.exons ends)) exon_lengths,
-    eq-eqb (length (part r.bounds r.segments starts)) (length (part r.bounds r.segments marks)) (same_length marks c.of_marks),
-    eq-eqb (length (part r.bounds r.segments starts)) (length (part r.bounds r.segments numbers)) (same_length numbers c.of_numbers),
-    eq-eqb (length (part r.bounds r.segments starts)) (length (part r.bounds r.segments ends)) (same_length ends c.of_ends),
+    eq-eqb (length (part (k + 1) r.exons t.starts)) (length (part (k + 1) r.exons t.ends)) exon_lengths,
+    eq-eqb (length (part r.bounds r.segments t.starts)) (length (part r.bounds r.segments t.marks)) (same_length t.marks c.of_marks),
+    eq-eqb (length (part r.bounds r.segments t.starts)) (length (part r.bounds r.segments t.numbers)) (same_length t.numbers c.of_numbers),
+    eq-eqb (length (part r.bounds r.segments t.starts)) (length (part r.bounds r.segments t.ends)) (same_length t.ends c.of_ends),
   )
 
-module _ (marks ids numbers starts ends : List ℕ) (k : ℕ) (r : Rows) (c : Columns marks numbers starts ends) where
+module _ (t : Table) (k : ℕ) (r : Rows) (c : Columns t) where
   abbrev here : Transcript
-  here = transcript_in marks ids numbers starts ends k r
+  here = transcript_in t k r
 
-  pub exon_starts_in : part (k + 1) r.exons starts ≡ exon_starts here
+  pub exon_starts_in : part (k + 1) r.exons t.starts ≡ exon_starts here
   unfolding transcript_in
-  exon_starts_in = sym (rw (even k r c) (starts_of (part (k + 1) r.exons starts) (part (k + 1) r.exons ends) (exon_lengths k r c)))
+  exon_starts_in = sym (rw (even k r c) (starts_of (part (k + 1) r.exons t.starts) (part (k + 1) r.exons t.ends) (exon_lengths k r c)))
 
-  pub exon_ends_in : part (k + 1) r.exons ends ≡ exon_ends here
+  pub exon_ends_in : part (k + 1) r.exons t.ends ≡ exon_ends here
   unfolding transcript_in
-  exon_ends_in = sym (rw (even k r c) (ends_of (part (k + 1) r.exons starts) (part (k + 1) r.exons ends) (exon_lengths k r c)))
+  exon_ends_in = sym (rw (even k r c) (ends_of (part (k + 1) r.exons t.starts) (part (k + 1) r.exons t.ends) (exon_lengths k r c)))
 
-  pub segments_in : (part r.bounds r.segments marks ≡ segment_phases here) × (part r.bounds r.segments numbers ≡ segment_exons here)
-      × (part r.bounds r.segments starts ≡ segment_starts here) × (part r.bounds r.segments ends ≡ segment_ends here)
+  pub segments_in : (part r.bounds r.segments t.marks ≡ segment_phases here) × (part r.bounds r.segments t.numbers ≡ segment_exons here)
+      × (part r.bounds r.segments t.starts ≡ segment_starts here) × (part r.bounds r.segments t.ends ≡ segment_ends here)
   unfolding transcript_in
   segments_in =
-      let s = segments_of_lem (part r.bounds r.segments marks) (part r.bounds r.segments numbers) (part r.bounds r.segments starts) (part r.bounds r.segments ends)
-      (same_length k r c marks c.of_marks) (same_length k r c numbers c.of_numbers) (same_length k r c ends c.of_ends) in
+      let s = segments_of_lem (part r.bounds r.segments t.marks) (part r.bounds r.segments t.numbers) (part r.bounds r.segments t.starts) (part r.bounds r.segments t.ends)
+      (same_length k r c t.marks c.of_marks) (same_length k r c t.numbers c.of_numbers) (same_length k r c t.ends c.of_ends) in
       (sym s.0, sym s.1, sym s.2, sym s.3)
 
-  pub scalars_in : scalar_words (model_in marks ids numbers starts ends k r) (length (part r.bounds r.segments starts)) (length (part r.segments r.bases starts)) ≡ scalars_of here
+  pub scalars_in : scalar_words (model_in t k r) (length (part r.bounds r.segments t.starts)) (length (part r.segments r.bases t.starts)) ≡ scalars_of here
   unfolding transcript_in
   scalars_in =
       let n = ap length segments_in.2 ∙ length-map here.segments (λ s. s.genomic_start) in
       rw n
 
-  pub bases_in_lem : part r.segments r.bases starts ≡ bases_of here
+  pub bases_in_lem : part r.segments r.bases t.starts ≡ bases_of here
   unfolding transcript_in
   bases_in_lem = refl

@@ -1,26 +1,24 @@
--- Numbers stored one by one at the front of a list.
+-- Elements stored at the front of a list, as many as fit.
 -- Assumes nothing.
-use Prim.Native.Nat.{ℕ, ◌+◌, ◌≤◌, ◌<◌}
-use mathlib.Core.Path.{◌≡◌, refl, sym, ◌∙◌, ap}
-use mathlib.Core.List.{List}
+use Prim.Native.Nat.{ℕ, zero, suc, min}
+use mathlib.Core.Path.{◌≡◌, refl, ◌∙◌, ap}
+use mathlib.Core.List.{List, [], ◌∷◌, ◌++◌}
 use native.Mathlib.Omega.{arith}
-use lib.ListN.{length, get_or, take, set}
-use lib.Seq.{set_out, length-sets, take-length}
-use Rattle.common.specs.Stored.{stored}
-use Rattle.common.proofs.Stored.{stored_more}
+use lib.ListN.{length, take, drop, set}
+use lib.Seq.{sets}
 
-module _ (before numbers : List ℕ) (i : ℕ) (l : i < length numbers) {out next : List ℕ} (e : out ≡ stored before 0 (take i numbers)) where
-  pub store_one : {v : ℕ} → v ≡ get_or numbers i 0 → next ≡ set out i v → next ≡ stored before 0 (take (i + 1) numbers)
-  store_one {v} f q =
-      let z : i ≡ 0 + i = omega arith in
-      q ∙ rw e (ap (λ (j : ℕ). set (stored before 0 (take i numbers)) j v) z ∙ stored_more before 0 numbers i v l f)
+sets_none : {A : Type 0} (i : ℕ) (vs : List A) → sets [] i vs ≡ []
+sets_none i [] = refl
+sets_none i (v ∷ vs) = sets_none (suc i) vs
 
-  -- behind the list's end nothing is stored
-  pub store_past : length out ≤ i → next ≡ out → next ≡ stored before 0 (take (i + 1) numbers)
-  store_past h q = store_one refl (q ∙ sym (set_out out i (get_or numbers i 0) h))
+sets_behind : {A : Type 0} (x : A) (l : List A) (i : ℕ) (vs : List A) → sets (x ∷ l) (suc i) vs ≡ x ∷ sets l i vs
+sets_behind x l i [] = refl
+sets_behind x l i (v ∷ vs) = sets_behind x (set l i v) (suc i) vs
 
-pub store_length : (before numbers : List ℕ) {out : List ℕ} → out ≡ stored before 0 numbers → length out ≡ length before
-store_length before numbers e = ap length e ∙ length-sets before 0 numbers
-
-pub store_all : (before numbers : List ℕ) (i : ℕ) {out : List ℕ} → i ≡ length numbers → out ≡ stored before 0 (take i numbers) → out ≡ stored before 0 numbers
-store_all before numbers i h e = e ∙ rw (h, take-length)
+pub stored_front : {A : Type 0} (l vs : List A) (n : ℕ) → n ≡ min (length l) (length vs) → sets l 0 vs ≡ take n vs ++ drop n l
+stored_front [] vs zero e = sets_none 0 vs
+stored_front [] vs (suc n) e = absurd (omega arith)
+stored_front (x ∷ l) [] zero e = refl
+stored_front (x ∷ l) [] (suc n) e = absurd (omega arith)
+stored_front (x ∷ l) (v ∷ vs) zero e = absurd (omega arith)
+stored_front (x ∷ l) (v ∷ vs) (suc n) e = sets_behind v l 0 vs ∙ ap (λ (k : List _). v ∷ k) (stored_front l vs n (omega arith))

@@ -8,16 +8,15 @@ use native.Mathlib.Omega.{arith}
 use lib.ListN.{length, length-map}
 use lib.Dec.{eqb}
 use borrow.Author.Tests.{eq-eqb}
-use Rattle.transcript.specs.declared.Admission.{Admission}
 use Rattle.transcript.specs.declared.Exon.{Exon}
 use Rattle.transcript.specs.declared.CdsSegment.{CdsSegment}
 use Rattle.transcript.specs.Transcript.{Transcript, exons_of, segments_of, even_lists}
 use Rattle.transcript.specs.Admission.{admission_of}
 use Rattle.transcript.proofs.Asking.{admitted_is}
 use Rattle.transcript.proofs.Admitted.{facts}
-use Rattle.deck.specs.declared.DeckAnswer.{DeckAnswer}
-use Rattle.deck.specs.declared.DeckAnswer.TheVariants.{Accepted, Refused}
-use Rattle.deck.specs.declared.structure.Structure.{Structure}
+use Rattle.std.specs.Prelude.{Result, Ok, Err}
+use Rattle.common.specs.declared.refusal.Refusal.{Refusal}
+use Rattle.deck.specs.declared.DeckRefusal.{DeckRefusal}
 use Rattle.deck.specs.Walk.{Parts, walk_deck}
 use Rattle.deck.specs.Deck.{transcript_of, admitted_then, admit_all, admitted, structure_of, parts_of, read_deck, deck_transcripts}
 use Rattle.contents.specs.Contents.{held_by, exon_starts, exon_ends, segment_phases, segment_exons, segment_starts, segment_ends}
@@ -51,33 +50,33 @@ pub lent_again : LentAgain
 lent_again t = rw (even t, exons_again t.exons, segments_again t.segments)
 
 -- an admitted transcript has so many
-admitted_fits : (t : Transcript) → admission_of t ≡ Admission.Admitted → Fits t
-admitted_fits t e =
-    let f = facts t (admitted_is t (admission_of t) refl e) in
+admitted_fits : (t : Transcript) (u : Unit {0}) → admission_of t ≡ Ok u → Fits t
+admitted_fits t u e =
+    let f = facts t (admitted_is t (admission_of t) refl u e) in
     let a = f.few in
     let b = f.few_segments in
     let x = length-map t.exons (λ x. x.genomic_start) in
     let s = length-map t.segments (λ s. s.genomic_start) in
     (omega arith, omega arith, f.few_bases)
 
-all_fit : (d : List ℕ) (ps : List Parts) → admit_all d ps ≡ Accepted → Each Fits (map (transcript_of d) ps)
+all_fit : (d : List ℕ) (ps : List Parts) → admit_all d ps ≡ Ok tt → Each Fits (map (transcript_of d) ps)
 unfolding admit_all
 all_fit d [] e = tt
 all_fit d (p ∷ ps) e = here (admission_of (transcript_of d p)) refl e (all_fit d ps)
   where
-    here : (a : Admission) → admission_of (transcript_of d p) ≡ a → admitted_then a p.transcript (admit_all d ps) ≡ Accepted
-        → (admit_all d ps ≡ Accepted → Each Fits (map (transcript_of d) ps)) → Each Fits (map (transcript_of d) (p ∷ ps))
-    here Admission.Admitted q h on = (admitted_fits (transcript_of d p) q, on h)
-    here (Admission.Refused n) q h on = absurd (let z : ◌≡◌ {A = ℕ} 0 1 = cc in omega arith)
+    here : (a : Result (Unit {0}) Refusal) → admission_of (transcript_of d p) ≡ a → admitted_then a p.transcript (admit_all d ps) ≡ Ok tt
+        → (admit_all d ps ≡ Ok tt → Each Fits (map (transcript_of d) ps)) → Each Fits (map (transcript_of d) (p ∷ ps))
+    here (Ok u) q h on = (admitted_fits (transcript_of d p) u q, on h)
+    here (Err r) q h on = cc
 
 pub lists_fit : ListsFit
 unfolding read_deck
 lists_fit d = here (structure_of d)
   where
-    deck : (a : DeckAnswer) → (a ≡ Accepted → Each Fits (deck_transcripts d)) → Each Fits (held_by a (deck_transcripts d))
-    deck Accepted h = h refl
-    deck (Refused n i) h = tt
+    deck : (a : Result Unit DeckRefusal) → (a ≡ Ok tt → Each Fits (deck_transcripts d)) → Each Fits (held_by a (deck_transcripts d))
+    deck (Ok x) h = h refl
+    deck (Err e) h = tt
 
-    here : (s : Structure) → Each Fits (held_by (admitted d s) (deck_transcripts d))
-    here (Structure.Records n) = deck (admit_all d (parts_of (walk_deck d))) (all_fit d (parts_of (walk_deck d)))
-    here (Structure.Refused n i) = tt
+    here : (s : Result ℕ DeckRefusal) → Each Fits (held_by (admitted d s) (deck_transcripts d))
+    here (Ok n) = deck (admit_all d (parts_of (walk_deck d))) (all_fit d (parts_of (walk_deck d)))
+    here (Err e) = tt

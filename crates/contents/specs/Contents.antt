@@ -1,6 +1,6 @@
 -- What a deck contains: its transcripts in chain order, each as lists of numbers.
 use Rattle.common.specs.Slices.{PassedLent}
-use Rattle.std.specs.Prelude.{ℕ, cond, List, [], ◌∷◌, map, length, take, drop, ltb, ◌≡◌}
+use Rattle.std.specs.Prelude.{ℕ, cond, List, [], ◌∷◌, map, length, take, drop, ltb, ◌≡◌, Result, Ok, Err}
 use Rattle.common.specs.Flag.{flag}
 use Rattle.common.specs.Lists.{concat}
 use Rattle.common.specs.Stored.{stored}
@@ -8,27 +8,26 @@ use Rattle.transcript.specs.declared.Strand.{Strand}
 use Rattle.transcript.specs.declared.Strand.TheVariants.{Plus, Minus}
 use Rattle.transcript.specs.declared.TranscriptModel.{TranscriptModel}
 use Rattle.transcript.specs.Transcript.{Transcript, cds_start, cds_end, has_bounds}
-use Rattle.deck.specs.declared.DeckAnswer.{DeckAnswer}
-use Rattle.deck.specs.declared.DeckAnswer.TheVariants.{Accepted, Refused}
+use Rattle.deck.specs.declared.DeckRefusal.{DeckRefusal}
+use Rattle.deck.specs.Refused.{refused_at}
 use Rattle.deck.specs.Deck.{read_deck, deck_transcripts}
-use Rattle.contents.specs.declared.Content.{Content}
 
 -- a refused deck gives its refusal, whatever is asked
-abbrev pub content_by : DeckAnswer → Content → Content
-content_by Accepted c = c
-content_by (Refused n i) c = Content.Refused n i
+abbrev pub content_by : Result Unit DeckRefusal → Result ℕ DeckRefusal → Result ℕ DeckRefusal
+content_by (Ok x) c = c
+content_by (Err e) c = Err e
 
-abbrev pub held_by : DeckAnswer → List Transcript → List Transcript
-held_by Accepted ts = ts
-held_by (Refused n i) ts = []
+abbrev pub held_by : Result Unit DeckRefusal → List Transcript → List Transcript
+held_by (Ok x) ts = ts
+held_by (Err e) ts = []
 
 -- the transcripts of an accepted deck, none of a refused one
 abbrev pub held : List ℕ → List Transcript
 held d = held_by (read_deck d) (deck_transcripts d)
 
 -- how many there are
-abbrev pub deck_content : List ℕ → Content
-deck_content d = content_by (read_deck d) (Content.Held (length (deck_transcripts d)))
+abbrev pub deck_content : List ℕ → Result ℕ DeckRefusal
+deck_content d = content_by (read_deck d) (Ok (length (deck_transcripts d)))
 
 -- their ids
 abbrev pub id_of : Transcript → ℕ
@@ -38,10 +37,10 @@ abbrev pub deck_ids : List ℕ → List ℕ
 deck_ids d = map id_of (held d)
 
 -- the transcript at a place in chain order, counted from 0; 25 where none stands there
-abbrev pub placed : List Transcript → ℕ → Content
-placed ts k = cond (ltb k (length ts)) (Content.Held (length ts)) (Content.Refused 25 0)
+abbrev pub placed : List Transcript → ℕ → Result ℕ DeckRefusal
+placed ts k = cond (ltb k (length ts)) (Ok (length ts)) (Err (refused_at 25 0))
 
-abbrev pub place_content : List ℕ → ℕ → Content
+abbrev pub place_content : List ℕ → ℕ → Result ℕ DeckRefusal
 place_content d k = content_by (read_deck d) (placed (deck_transcripts d) k)
 
 -- that transcript, a list of one, or of none

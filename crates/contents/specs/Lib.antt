@@ -1,4 +1,3 @@
 pub mod Contents
-pub mod Numbers
 pub mod code
 pub mod claims

@@ -10,10 +10,3 @@ mod transcript_at;
 
 pub use ids::deck_ids;
 pub use transcript_at::deck_transcript;
-
-// How many transcripts the deck has, or a refusal: the deck's with its record, or that of a place at which there is no transcript.
-#[derive(Clone, Copy)]
-pub enum Content {
-    Held(usize),
-    Refused { number: u8, record: u16 },
-}

@@ -1,39 +1,11 @@
-// Numbers stored at the front of a lent list, as far as it reaches.
+// Elements stored at the front of a lent list, as far as it reaches.
 ghost use Rattle.std.specs.Prelude.{◌≡◌};
-ghost use Rattle.common.specs.Stored.{stored};
+ghost use Rattle.std.proofs.lemmas.List.Edits.{sets};
 
-pub(crate) fn store_words(out: &mut [u64], from: &[u64])
-    ensures { out.new ≡ stored out.old 0 from.now }
+#[tactic(auto, using(crate::proofs::Storing::stored_front))]
+pub(crate) fn store<T: Copy>(out: &mut [T], from: &[T])
+    ensures { out.new ≡ sets out.old 0 from.now }
 {
-    let mut i = 0;
-    while i < from.len() {
-        if i < out.len() {
-            out[i] = from[i];
-        }
-        i += 1;
-    }
-}
-
-pub(crate) fn store_numbers(out: &mut [u16], from: &[u16])
-    ensures { out.new ≡ stored out.old 0 from.now }
-{
-    let mut i = 0;
-    while i < from.len() {
-        if i < out.len() {
-            out[i] = from[i];
-        }
-        i += 1;
-    }
-}
-
-pub(crate) fn store_bytes(out: &mut [u8], from: &[u8])
-    ensures { out.new ≡ stored out.old 0 from.now }
-{
-    let mut i = 0;
-    while i < from.len() {
-        if i < out.len() {
-            out[i] = from[i];
-        }
-        i += 1;
-    }
+    let n = out.len().min(from.len());
+    out[..n].copy_from_slice(&from[..n]);
 }

@@ -1,42 +1,38 @@
 // The transcripts of a table by their places.
-ghost use Rattle.std.specs.Prelude.{◌≤◌, ◌≡◌, length, get_or};
-ghost use Rattle.deck.specs.code.Table.{rows_from};
+ghost use Rattle.std.specs.Prelude.{◌≡◌, length};
+ghost use Rattle.deck.specs.code.Table.{transcript_rows};
+ghost use Rattle.contents.specs.code.Places.{row_of};
 
-use deck::rows::rows_at;
+use deck::Table;
+use deck::rows::Rows;
 
 // How many there are.
-pub(crate) fn count_rows(kinds: &[u8; 4096]) -> usize
-    ensures { result ≡ length (rows_from 4096 kinds.now 0) }
+#[tactic(auto, using(deck::proofs::RowOrder::rows_ordered, deck::proofs::RowOrder::rows_step, deck::proofs::RowOrder::rows_stop))]
+pub(crate) fn count_rows(table: &Table) -> usize
+    ensures { result ≡ length (transcript_rows table.now) }
 {
     let mut n = 0;
     let mut k = 0;
-    while k < 4096 {
-        if kinds[k] != 1 {
-            return n;
-        }
+    while let Some(rows) = table.transcript_rows_at(k) {
         n += 1;
-        let rows = rows_at(kinds, k);
         k = rows.bases;
     }
     n
 }
 
-// The row of the transcript at a place, 4096 where there is none.
-pub(crate) fn row_of(kinds: &[u8; 4096], place: usize) -> usize
-    ensures { (result ≡ get_or (rows_from 4096 kinds.now 0) place 4096) × (result ≤ 4096) }
+// The row of the transcript at a place, with where its parts end.
+#[tactic(auto, using(deck::proofs::RowOrder::rows_ordered, deck::proofs::RowOrder::rows_step, deck::proofs::RowOrder::rows_stop))]
+pub(crate) fn row_of(table: &Table, place: usize) -> Option<(usize, Rows)>
+    ensures { result ≡ row_of table.now place }
 {
     let mut left = place;
     let mut k = 0;
-    while k < 4096 {
-        if kinds[k] != 1 {
-            return 4096;
-        }
+    while let Some(rows) = table.transcript_rows_at(k) {
         if left == 0 {
-            return k;
+            return Some((k, rows));
         }
         left -= 1;
-        let rows = rows_at(kinds, k);
         k = rows.bases;
     }
-    4096
+    None
 }

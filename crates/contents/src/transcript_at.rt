@@ -1,23 +1,17 @@
 // A transcript of a deck by its place.
 ghost use Rattle.std.specs.Prelude.{◌≡◌, take, drop};
-ghost use Rattle.deck.specs.code.Table.{table_was_given, table_transcripts};
+ghost use Rattle.deck.specs.code.Table.{table_transcripts};
 ghost use Rattle.contents.specs.Contents.{placed, place_content, chosen, Stored};
 ghost use Rattle.contents.specs.code.Columns.{Columns};
 
-use crate::Content;
 use crate::place::{count_rows, row_of};
 use crate::row::store_row;
-use deck::rows::rows_at;
-use deck::{DeckAnswer, read_deck};
+use common::refusal::Refusal;
+use deck::{DeckRefusal, Table, read_deck};
 
-// The transcript at a place of a table, in lent lists.
+// The transcript at a place of a table, in lent lists, each by itself as the C interface lends it.
 fn store_place(
-    kinds: &[u8; 4096],
-    marks: &[u8; 4096],
-    ids: &[u32; 4096],
-    numbers: &[u16; 4096],
-    starts: &[u64; 4096],
-    ends: &[u64; 4096],
+    table: &Table,
     place: usize,
     scalars: &mut [u64; 12],
     exon_starts: &mut [u64; 512],
@@ -27,28 +21,20 @@ fn store_place(
     seg_starts: &mut [u64; 512],
     seg_ends: &mut [u64; 512],
     selenocysteine: &mut [u64; 64],
-) -> Content
-    requires { Columns marks.now numbers.now starts.now ends.now }
-    ensures { let ts = table_transcripts (table_was_given kinds marks ids numbers starts ends) in
-        let t = take 1 (drop place ts) in
-        (result ≡ placed ts place)
-        × Stored t scalars exon_starts exon_ends seg_phases seg_exons seg_starts seg_ends selenocysteine }
+) -> Result<usize, DeckRefusal>
+    requires { Columns table.now }
+    ensures value { result ≡ placed (table_transcripts table.now) place }
+    ensures lists_after { let t = take 1 (drop place (table_transcripts table.now)) in
+        Stored t scalars exon_starts exon_ends seg_phases seg_exons seg_starts seg_ends selenocysteine }
 {
-    let count = count_rows(kinds);
-    if count <= place {
-        return Content::Refused {
-            number: 25,
+    let Some((k, rows)) = row_of(table, place) else {
+        return Err(DeckRefusal {
+            refusal: Refusal::NoTranscript,
             record: 0,
-        };
-    }
-    let k = row_of(kinds, place);
-    let rows = rows_at(kinds, k);
+        });
+    };
     store_row(
-        marks,
-        ids,
-        numbers,
-        starts,
-        ends,
+        table,
         k,
         rows,
         scalars,
@@ -60,7 +46,7 @@ fn store_place(
         seg_ends,
         selenocysteine,
     );
-    Content::Held(count)
+    Ok(count_rows(table))
 }
 
 // The transcript at a place in chain order. Its scalars and lists are stored at the front of those lent, whose rest stays.
@@ -75,36 +61,15 @@ pub fn deck_transcript(
     seg_starts: &mut [u64; 512],
     seg_ends: &mut [u64; 512],
     selenocysteine: &mut [u64; 64],
-) -> Content
+) -> Result<usize, DeckRefusal>
     ensures value { result ≡ place_content bytes.now place }
-    ensures fact { let t = chosen bytes.now place in
+    ensures lists_after { let t = chosen bytes.now place in
         Stored t scalars exon_starts exon_ends seg_phases seg_exons seg_starts seg_ends selenocysteine }
 {
-    let mut kinds = [0u8; 4096];
-    let mut marks = [0u8; 4096];
-    let mut ids = [0u32; 4096];
-    let mut numbers = [0u16; 4096];
-    let mut starts = [0u64; 4096];
-    let mut ends = [0u64; 4096];
-    let answer = read_deck(
-        bytes,
-        &mut kinds,
-        &mut marks,
-        &mut ids,
-        &mut numbers,
-        &mut starts,
-        &mut ends,
-    );
-    if let DeckAnswer::Refused { number, record } = answer {
-        return Content::Refused { number, record };
-    }
+    let mut table = Table::empty();
+    read_deck(bytes, &mut table)?;
     store_place(
-        &kinds,
-        &marks,
-        &ids,
-        &numbers,
-        &starts,
-        &ends,
+        &table,
         place,
         scalars,
         exon_starts,

@@ -9,7 +9,7 @@ use lib.ListN.{length, length-drop, length-reverse}
 use lib.Dec.{eqb, leb}
 use borrow.Author.Tests.{eqb-true, eqb-false, ne_eqb, leb-false}
 use Rattle.common.proofs.Counting.{count_either}
-use Rattle.common.specs.Lists.{any, memb, count_below}
+use Rattle.common.specs.Lists.{memb, count_below}
 use Rattle.deck.specs.Records.{record_count, kind_of, next_of, half}
 use Rattle.deck.specs.Walk.{bad_link, Chain, chained, broken, prepend, chain_from, chain, Step, read, failed, follow, walk_coding, walk_bounds, walk_transcript, Walk, walked, stopped, add_parts, onward, transcripts_from, walk_deck}
 use Rattle.deck.specs.code.Order.{order_of}
@@ -44,7 +44,6 @@ count_point x (suc n) l = here (eqb n x) refl (λ k. count_point x n k)
     here false e h = let q = eqb-false n x e in rw (h (omega arith)) (omega arith)
 
 count_one : (x : ℕ) (xs : List ℕ) (n : ℕ) → x < n → memb x xs ≡ false → count_below (λ i. memb i (x ∷ xs)) n ≡ suc (count_below (λ i. memb i xs) n)
-unfolding any
 count_one x xs n l e =
     let c = count_either (λ i. eqb i x) (λ i. memb i xs) (λ i. memb i (x ∷ xs)) n (λ i q. ap (λ (k : ℕ). memb k xs) (eqb-true i x q) ∙ e) (λ i. refl) in
     let p = count_point x n l in
@@ -144,5 +143,5 @@ order_few d (stopped i) n h = n
 
 -- besides the head
 pub walk_few : (d : List ℕ) → 0 < record_count d → length (order_of (walk_deck d)) < record_count d
-unfolding walk_deck any
+unfolding walk_deck
 walk_few d n = order_few d (walk_deck d) n (walk_fine (record_count d) d 0 (next_of d 0) (0 ∷ []) (n, refl, tt))

@@ -1,11 +1,10 @@
 -- The outer edges of exons that are lent as two lists.
 -- Assumes nothing.
-use Prim.Native.Nat.{ℕ, ◌-◌, ◌<◌}
+use Prim.Native.Nat.{ℕ, ◌-◌}
 use mathlib.Core.Path.{◌≡◌, refl}
 use mathlib.Core.List.{List, [], ◌∷◌}
 use native.Mathlib.Omega.{arith}
 use lib.ListN.{length, get_or}
-use Rattle.transcript.specs.declared.Strand.{Strand}
 use Rattle.transcript.specs.declared.Strand.TheVariants.{Plus, Minus}
 use Rattle.transcript.specs.declared.Exon.{Exon}
 use Rattle.transcript.specs.Transcript.{exons_of}
@@ -15,15 +14,16 @@ use Rattle.deck.specs.Deck.{tx_bounds}
 abbrev pub exon : ℕ → ℕ → Exon
 exon s e = record { genomic_start = s; genomic_end = e }
 
-pub no_exons : (ss es : List ℕ) (σ : Strand) → length ss ≡ 0 → exon 0 0 ≡ tx_bounds σ (exons_of ss es)
+pub plus_edges : (ss es : List ℕ) → length ss ≡ length es → exon (get_or ss 0 0) (get_or es (length es - 1) 0) ≡ tx_bounds Plus (exons_of ss es)
 unfolding exons_of
-no_exons [] es Plus h = refl
-no_exons [] es Minus h = refl
-no_exons (s ∷ ss) es σ h = absurd (omega arith)
+plus_edges [] [] e = refl
+plus_edges [] (x ∷ es) e = absurd (omega arith)
+plus_edges (s ∷ ss) es e =
+    rw (exons_length (s ∷ ss) es e, exons_at (s ∷ ss) es 0 e (omega arith), exons_at (s ∷ ss) es (length (s ∷ ss) - 1) e (omega arith), e)
 
-module _ (ss es : List ℕ) (even : length ss ≡ length es) (some : 0 < length ss) where
-  pub plus_edges : {σ : Strand} → σ ≡ Plus → exon (get_or ss 0 0) (get_or es (length ss - 1) 0) ≡ tx_bounds σ (exons_of ss es)
-  plus_edges e = rw (e, exons_length ss es even, exons_at ss es 0 even some, exons_at ss es (length ss - 1) even (omega arith))
-
-  pub minus_edges : {σ : Strand} → σ ≡ Minus → exon (get_or ss (length ss - 1) 0) (get_or es 0 0) ≡ tx_bounds σ (exons_of ss es)
-  minus_edges e = rw (e, exons_length ss es even, exons_at ss es 0 even some, exons_at ss es (length ss - 1) even (omega arith))
+pub minus_edges : (ss es : List ℕ) → length ss ≡ length es → exon (get_or ss (length ss - 1) 0) (get_or es 0 0) ≡ tx_bounds Minus (exons_of ss es)
+unfolding exons_of
+minus_edges [] [] e = refl
+minus_edges [] (x ∷ es) e = absurd (omega arith)
+minus_edges (s ∷ ss) es e =
+    rw (exons_length (s ∷ ss) es e, exons_at (s ∷ ss) es 0 e (omega arith), exons_at (s ∷ ss) es (length (s ∷ ss) - 1) e (omega arith))

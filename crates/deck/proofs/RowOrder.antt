@@ -1,21 +1,22 @@
 -- The transcripts of a table, row by row.
 -- Assumes nothing.
-use Prim.Native.Nat.{ℕ, zero, suc, ◌+◌, ◌-◌, ◌≤◌, ◌<◌, min}
-use mathlib.Core.Path.{◌≡◌, refl, sym, ◌∙◌, ap}
+use Prim.Native.Nat.{ℕ, zero, suc, ◌+◌, ◌-◌, ◌≤◌, ◌<◌}
+use mathlib.Core.Path.{◌≡◌, refl, ap}
 use mathlib.Core.Bool.{Bool, true, false, cond, not}
 use mathlib.Core.List.{List, [], ◌∷◌}
 use native.Mathlib.Omega.{arith}
 use lib.ListN.{get_or}
 use lib.Dec.{eqb, ltb}
-use borrow.Author.Tests.{eq-eqb, ne_eqb, lt-ltb, le-ltb, ltb-true}
+use borrow.Author.Tests.{eq-eqb, ne_eqb, lt-ltb, le-ltb, ltb-true, eqb-true}
 use Rattle.common.proofs.TestParts.{on_test, and_true}
-use Rattle.transcript.specs.declared.Admission.{Admission}
-use Rattle.transcript.specs.declared.Admission.TheVariants.{Admitted}
+use Rattle.common.specs.declared.refusal.Refusal.{Refusal}
+use Rattle.transcript.specs.Transcript.{Transcript}
 use Rattle.transcript.specs.Admission.{admission_of}
-use Rattle.deck.specs.declared.DeckAnswer.TheVariants.{Accepted, Refused}
+use Rattle.std.specs.Prelude.{Some, None, Ok, Err}
+use Rattle.deck.specs.declared.Table.{Table}
 use Rattle.deck.specs.declared.rows.Rows.{Rows}
 use Rattle.deck.specs.Records.{lowest}
-use Rattle.deck.specs.code.Table.{DeckTable, is_kind, run_end, bounds_end, rows_at, InOrder, rows_from, transcript_in, admit_rows}
+use Rattle.deck.specs.code.Table.{is_kind, run_end, bounds_end, rows_at, transcript_rows_at, InOrder, rows_from, transcript_in, admit_rows}
 
 lowest_within : (f : ℕ → Bool) (n i : ℕ) → (i ≤ lowest f n i) × (lowest f n i ≤ n + i)
 unfolding lowest
@@ -70,14 +71,6 @@ rows_in_order kinds k l =
     let bl = bounds_low kinds x (run_low kinds 3 (k + 1) (omega arith)) in
     (omega arith, bounds_from kinds x, run_from kinds 4 b, run_from kinds 5 g, run_low kinds 5 g (run_low kinds 4 b bl))
 
--- what the code gives for a row of the table
-module _ (kinds : List ℕ) (k : ℕ) (l : k < 4096) {r : Rows} (e : r ≡ rows_at kinds (min k 4096)) where
-  pub rows_inside : r ≡ rows_at kinds k
-  rows_inside = e ∙ ap (rows_at kinds) (omega arith)
-
-  pub rows_ordered : InOrder k r
-  rows_ordered = rw rows_inside (rows_in_order kinds k l)
-
 -- no more than 4096 transcripts stand in a table
 pub rows_fuel : (kinds : List ℕ) (n m k : ℕ) → 4096 ≤ n + k → 4096 ≤ m + k → rows_from n kinds k ≡ rows_from m kinds k
 unfolding rows_from
@@ -109,17 +102,38 @@ module _ (kinds : List ℕ) (k : ℕ) where
       here zero e = refl
       here (suc m) e = rw (ne_eqb (get_or kinds k 0) 1 (n (omega arith)), lt-ltb k 4096 (omega arith))
 
-module _ (order : List ℕ) (t : DeckTable) (k : ℕ) {r : Rows} (er : r ≡ rows_at t.kinds k) (l : k < 4096) (e : get_or t.kinds k 0 ≡ 1) where
-  pub admit_on : Admitted ≡ admission_of (transcript_in t.marks t.ids t.numbers t.starts t.ends k r)
+-- where the code finds a transcript at a row
+module _ (kinds : List ℕ) (k : ℕ) {r : Rows} (e : Some r ≡ transcript_rows_at kinds k) where
+  stands : (is_kind kinds 1 k ≡ true) × (r ≡ rows_at kinds k)
+  stands = on_test (is_kind kinds 1 k) (λ h. let q = rw h at e in (h, cc)) (λ h. let q = rw h at e in cc)
+
+  pub row_low : k < 4096
+  row_low = row_inside kinds 1 k stands.0
+
+  pub rows_are : r ≡ rows_at kinds k
+  rows_are = stands.1
+
+  pub rows_ordered : InOrder k r
+  rows_ordered = rw rows_are (rows_in_order kinds k row_low)
+
+  pub rows_step : rows_onward kinds k ≡ k ∷ rows_onward kinds r.bases
+  rows_step = rw rows_are (rows_here kinds k row_low (eqb-true (get_or kinds k 0) 1 (and_true (ltb k 4096) (eqb (get_or kinds k 0) 1) stands.0).1))
+
+-- where it finds none
+pub rows_stop : (kinds : List ℕ) (k : ℕ) → None ≡ transcript_rows_at kinds k → rows_onward kinds k ≡ []
+rows_stop kinds k e = rows_none kinds k (λ l q. let h = rw (lt-ltb k 4096 l, eq-eqb (get_or kinds k 0) 1 q) at e in cc)
+
+module _ (order : List ℕ) (t : Table) (k : ℕ) {r : Rows} (e : Some r ≡ transcript_rows_at t.kinds k) where
+  pub admit_on : {u : Unit} (x : Transcript) → x ≡ transcript_in t k r → Ok u ≡ admission_of x
       → admit_rows order t (rows_onward t.kinds k) ≡ admit_rows order t (rows_onward t.kinds r.bases)
   unfolding admit_rows
-  admit_on a = rw (rows_here t.kinds k l e, sym er, sym a)
+  admit_on x q a = rw (rows_step t.kinds k e, ← rows_are t.kinds k e, ← q, ← a)
 
-  pub admit_stop : {n : ℕ} → Admission.Refused n ≡ admission_of (transcript_in t.marks t.ids t.numbers t.starts t.ends k r)
-      → Refused n (get_or order k 0) ≡ admit_rows order t (rows_onward t.kinds k)
+  pub admit_stop : {f : Refusal} (x : Transcript) → x ≡ transcript_in t k r → Err f ≡ admission_of x
+      → Err (record { refusal = f; «record» = get_or order k 0 }) ≡ admit_rows order t (rows_onward t.kinds k)
   unfolding admit_rows
-  admit_stop a = rw (rows_here t.kinds k l e, sym er, sym a)
+  admit_stop x q a = rw (rows_step t.kinds k e, ← rows_are t.kinds k e, ← q, ← a)
 
-pub admit_none : (order : List ℕ) (t : DeckTable) (k : ℕ) → (k < 4096 → get_or t.kinds k 0 ≡ 1 → ⊥) → Accepted ≡ admit_rows order t (rows_onward t.kinds k)
+pub admit_none : (order : List ℕ) (t : Table) (k : ℕ) → None ≡ transcript_rows_at t.kinds k → Ok tt ≡ admit_rows order t (rows_onward t.kinds k)
 unfolding admit_rows
-admit_none order t k n = rw (rows_none t.kinds k n)
+admit_none order t k n = rw (rows_stop t.kinds k n)

@@ -1,4 +1,4 @@
--- How a chain, a transcript and a walk end: with the records reached, or at a bad link. What was collected on the way is left out.
+-- How a chain, a transcript and a walk end, from the definitions.
 -- Assumes nothing.
 use Prim.Native.Nat.{ℕ, suc}
 use mathlib.Core.Path.{◌≡◌, refl, ◌∙◌}
@@ -6,11 +6,8 @@ use mathlib.Core.Bool.{Bool, true, false, cond}
 use mathlib.Core.List.{List, [], ◌∷◌}
 use lib.Dec.{eqb}
 use Rattle.deck.specs.Records.{next_of, half}
+use Rattle.deck.specs.code.Trail.{Way, ended, bad, walk_way}
 use Rattle.deck.specs.Walk.{bad_link, Chain, chained, broken, prepend, chain_from, chain, Parts, Step, read, failed, follow, walk_coding, walk_bounds, walk_transcript, Walk, walked, stopped, add_parts, onward, transcripts_from}
-
-pub data Way : Type 0 where
-  ended : List ℕ → Way
-  bad : ℕ → Way
 
 abbrev pub chain_way : Chain → Way
 chain_way (chained is r) = ended r
@@ -19,10 +16,6 @@ chain_way (broken i) = bad i
 abbrev pub step_way : Step → Way
 step_way (read p r) = ended r
 step_way (failed i) = bad i
-
-abbrev pub walk_way : Walk → Way
-walk_way (walked ps r) = ended r
-walk_way (stopped i) = bad i
 
 abbrev pub go_on : Way → (List ℕ → Way) → Way
 go_on (ended r) go = go r

@@ -1,20 +1,16 @@
 -- Reading a deck: its refusal in the order 22, 23, 25, 24, then 1 to 13 in chain order, or its transcripts.
-use Rattle.std.specs.Prelude.{ℕ, ◌-◌, ◌/◌, ◌%◌, Bool, cond, not, ◌||◌, List, [], ◌∷◌, map, length, get_or, ltb, eqb}
+use Rattle.std.specs.Prelude.{ℕ, ◌-◌, ◌/◌, ◌%◌, Bool, cond, not, ◌||◌, List, [], ◌∷◌, map, length, get_or, ltb, eqb, Option, Some, None, Result, Ok, Err}
+use Rattle.common.specs.declared.refusal.Refusal.{Refusal}
 use Rattle.transcript.specs.declared.Strand.{Strand}
 use Rattle.transcript.specs.declared.Strand.TheVariants.{Plus, Minus}
 use Rattle.transcript.specs.declared.CdsBounds.{CdsBounds}
-use Rattle.transcript.specs.declared.CdsBounds.TheVariants.{Neither, Both}
 use Rattle.transcript.specs.declared.Exon.{Exon}
 use Rattle.transcript.specs.declared.CdsSegment.{CdsSegment}
 use Rattle.transcript.specs.Transcript.{Transcript}
-use Rattle.transcript.specs.declared.Admission.{Admission}
 use Rattle.transcript.specs.Admission.{admission_of}
-use Rattle.deck.specs.declared.DeckAnswer.{DeckAnswer}
-use Rattle.deck.specs.declared.DeckAnswer.TheVariants.{Accepted, Refused}
+use Rattle.deck.specs.declared.DeckRefusal.{DeckRefusal}
+use Rattle.deck.specs.Refused.{refused_at}
 use Rattle.deck.specs.Records.{record_count, mark_of, next_of, half, word, bad_record, lowest}
-use Rattle.deck.specs.declared.structure.Structure.{Structure}
-use Rattle.deck.specs.declared.walk.Walked.{Walked}
-use Rattle.deck.specs.declared.walk.Walked.TheVariants.{All, Bad}
 use Rattle.deck.specs.Walk.{walked_as, Parts, Walk, walked, stopped, walk_deck}
 
 abbrev pub exon_at : List ℕ → ℕ → Exon
@@ -31,8 +27,8 @@ strand_of mark = cond (eqb (mark % 2) 1) Minus Plus
 abbrev pub start_complete : ℕ → Bool
 start_complete mark = eqb (mark / 2 % 2) 1
 
-abbrev pub cds_at : List ℕ → ℕ → CdsBounds
-cds_at d b = cond (eqb b 0) Neither (Both (word d b 4) (word d b 8))
+abbrev pub cds_at : List ℕ → ℕ → Option CdsBounds
+cds_at d b = cond (eqb b 0) None (Some (record { cds_genomic_start = word d b 4; cds_genomic_end = word d b 8 }))
 
 -- an exon of a chain, by its place in it
 abbrev pub exon_in : List Exon → ℕ → Exon
@@ -62,13 +58,13 @@ transcript_of d p = record {
 }
 
 -- on with what follows an admitted transcript, or its refusal with its record
-abbrev pub admitted_then : Admission → ℕ → DeckAnswer → DeckAnswer
-admitted_then Admission.Admitted i later = later
-admitted_then (Admission.Refused n) i later = Refused n i
+abbrev pub admitted_then : Result Unit Refusal → ℕ → Result Unit DeckRefusal → Result Unit DeckRefusal
+admitted_then (Ok u) i later = later
+admitted_then (Err r) i later = Err (record { refusal = r; «record» = i })
 
 -- the first refused transcript in chain order
-unfoldable pub admit_all : List ℕ → List Parts → DeckAnswer
-admit_all d [] = Accepted
+unfoldable pub admit_all : List ℕ → List Parts → Result Unit DeckRefusal
+admit_all d [] = Ok tt
 admit_all d (p ∷ ps) = admitted_then (admission_of (transcript_of d p)) p.transcript (admit_all d ps)
 
 -- 22: deck length 0, not a multiple of 16, or over 65,536
@@ -79,29 +75,24 @@ bad_length d = eqb (length d) 0 || not (eqb (length d % 16) 0) || ltb 65_536 (le
 abbrev pub first_bad : List ℕ → ℕ
 first_bad d = lowest (bad_record d) (record_count d) 0
 
--- 24, the linking record, else the lowest unreached
-abbrev pub link_answer : Walked → Structure
-link_answer (All n) = Structure.Records n
-link_answer (Bad i) = Structure.Refused 24 i
-
--- the records by themselves and their links, in the order 22, 23, 25, 24
-unfoldable pub structure_of : List ℕ → Structure
+-- the records by themselves and their links, in the order 22, 23, 25, 24: how many there are besides the head
+unfoldable pub structure_of : List ℕ → Result ℕ DeckRefusal
 structure_of d =
-    cond (bad_length d) (Structure.Refused 22 0)
-    (cond (ltb (first_bad d) (record_count d)) (Structure.Refused 23 (first_bad d))
-    (cond (eqb (next_of d 0) 0) (Structure.Refused 25 0)
-    (link_answer (walked_as d (walk_deck d)))))
+    cond (bad_length d) (Err (refused_at 22 0))
+    (cond (ltb (first_bad d) (record_count d)) (Err (refused_at 23 (first_bad d)))
+    (cond (eqb (next_of d 0) 0) (Err (refused_at 25 0))
+    (walked_as d (walk_deck d))))
 
 abbrev pub parts_of : Walk → List Parts
 parts_of (walked ps reached) = ps
 parts_of (stopped i) = []
 
 -- then 1 to 13
-abbrev pub admitted : List ℕ → Structure → DeckAnswer
-admitted d (Structure.Records n) = admit_all d (parts_of (walk_deck d))
-admitted d (Structure.Refused n i) = Refused n i
+abbrev pub admitted : List ℕ → Result ℕ DeckRefusal → Result Unit DeckRefusal
+admitted d (Ok n) = admit_all d (parts_of (walk_deck d))
+admitted d (Err e) = Err e
 
-unfoldable pub read_deck : List ℕ → DeckAnswer
+unfoldable pub read_deck : List ℕ → Result Unit DeckRefusal
 read_deck d = admitted d (structure_of d)
 
 -- the transcripts of an accepted deck, in chain order

@@ -1,22 +1,22 @@
--- What each case of a deck's answer stands for: its refusal number, 0 where the deck is accepted, and the record named with it.
-use Rattle.std.specs.Prelude.{ℕ, Bool, true, false, List, [], ◌∷◌}
-use Rattle.deck.specs.declared.DeckAnswer.{DeckAnswer}
-use Rattle.deck.specs.declared.DeckAnswer.TheVariants.{Accepted, Refused}
+-- What a deck's answer stands for: its refusal number, 0 where the deck is accepted, and the record named with it.
+use Rattle.std.specs.Prelude.{ℕ, Bool, true, false, List, [], ◌∷◌, Result, Ok, Err}
+use Rattle.common.specs.Refusal.{number}
+use Rattle.deck.specs.declared.DeckRefusal.{DeckRefusal}
 
--- the refusal number of each case, 0 where the deck is accepted, and the record named with it
-abbrev pub deck_number : DeckAnswer → ℕ
-deck_number Accepted = 0
-deck_number (Refused n i) = n
+-- the refusal number, 0 where the deck is accepted, and the record named with it
+abbrev pub deck_number : {A : Type 0} → Result A DeckRefusal → ℕ
+deck_number (Ok x) = 0
+deck_number (Err e) = number e.refusal
 
-abbrev pub deck_record : DeckAnswer → ℕ
-deck_record Accepted = 0
-deck_record (Refused n i) = i
+abbrev pub deck_record : {A : Type 0} → Result A DeckRefusal → ℕ
+deck_record (Ok x) = 0
+deck_record (Err e) = e.record
 
 -- the record named with a refusal
-abbrev pub deck_values : DeckAnswer → List ℕ
-deck_values Accepted = []
-deck_values (Refused n i) = i ∷ []
+abbrev pub deck_values : {A : Type 0} → Result A DeckRefusal → List ℕ
+deck_values (Ok x) = []
+deck_values (Err e) = e.record ∷ []
 
-abbrev pub is_accepted : DeckAnswer → Bool
-is_accepted Accepted = true
-is_accepted (Refused n i) = false
+abbrev pub is_accepted : {A : Type 0} → Result A DeckRefusal → Bool
+is_accepted (Ok x) = true
+is_accepted (Err e) = false

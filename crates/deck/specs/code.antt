@@ -2,3 +2,4 @@ pub mod Links
 pub mod Order
 pub mod Reached
 pub mod Table
+pub mod Trail

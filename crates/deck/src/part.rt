@@ -1,74 +1,69 @@
 // The lists of a transcript as parts of the columns. Rows that are not in their order, or behind a column's end, make a shorter part.
-ghost use Rattle.std.specs.Prelude.{◌+◌, ◌-◌, min, ◌≡◌, length};
-ghost use Rattle.deck.specs.code.Table.{part};
+ghost use Rattle.std.specs.Prelude.{◌≡◌};
+ghost use Rattle.deck.specs.code.Table.{part, IsExonPart};
 
+use crate::Table;
 use crate::rows::Rows;
 
-pub(crate) fn least(a: usize, b: usize) -> usize
-    ensures { result ≡ min a b }
+// The elements from one row up to another.
+fn part<T>(column: &[T; 4096], from: usize, to: usize) -> &[T]
+    ensures { result.now ≡ part from to column.now }
 {
-    if a < b {
-        return a;
-    }
-    b
-}
-
-// The row behind k, or the end where that is less.
-fn behind(k: usize, end: usize) -> usize
-    ensures { result ≡ min (k + 1) end }
-{
-    if k < end {
-        return k + 1;
-    }
-    end
+    let end = to.min(4096);
+    let start = from.min(end);
+    let all = &column[..];
+    &all[start..end]
 }
 
 // The exons' part of a column.
-pub fn exon_part(column: &[u64; 4096], k: usize, rows: Rows) -> &[u64]
-    ensures { (result.now ≡ part (k + 1) rows.exons column.now) × (length result.now ≡ min rows.exons 4096 - (k + 1)) }
+fn exon_part(column: &[u64; 4096], k: usize, rows: Rows) -> &[u64]
+    ensures { IsExonPart k rows column.now result.now }
 {
-    let end = least(rows.exons, 4096);
-    let start = behind(k, end);
-    let all = &column[..];
-    &all[start..end]
+    part(column, k.saturating_add(1), rows.exons)
 }
 
-// The segments' part of a column.
-pub fn segment_part(column: &[u64; 4096], rows: Rows) -> &[u64]
-    ensures { result.now ≡ part rows.bounds rows.segments column.now }
-{
-    let end = least(rows.segments, 4096);
-    let start = least(rows.bounds, end);
-    let all = &column[..];
-    &all[start..end]
-}
+impl Table {
+    pub fn exon_starts(&self, k: usize, rows: Rows) -> &[u64]
+        ensures { IsExonPart k rows self.now.starts result.now }
+    {
+        exon_part(&self.starts, k, rows)
+    }
 
-// The segments' part of the marks: their phases.
-pub fn segment_phases(column: &[u8; 4096], rows: Rows) -> &[u8]
-    ensures { result.now ≡ part rows.bounds rows.segments column.now }
-{
-    let end = least(rows.segments, 4096);
-    let start = least(rows.bounds, end);
-    let all = &column[..];
-    &all[start..end]
-}
+    pub fn exon_ends(&self, k: usize, rows: Rows) -> &[u64]
+        ensures { IsExonPart k rows self.now.ends result.now }
+    {
+        exon_part(&self.ends, k, rows)
+    }
 
-// The segments' part of the numbers: their exons' indexes.
-pub fn segment_exons(column: &[u16; 4096], rows: Rows) -> &[u16]
-    ensures { result.now ≡ part rows.bounds rows.segments column.now }
-{
-    let end = least(rows.segments, 4096);
-    let start = least(rows.bounds, end);
-    let all = &column[..];
-    &all[start..end]
-}
+    pub fn segment_phases(&self, rows: Rows) -> &[u8]
+        ensures { result.now ≡ part rows.bounds rows.segments self.now.marks }
+    {
+        part(&self.marks, rows.bounds, rows.segments)
+    }
 
-// The selenocysteine bases' part of a column.
-pub fn base_part(column: &[u64; 4096], rows: Rows) -> &[u64]
-    ensures { result.now ≡ part rows.segments rows.bases column.now }
-{
-    let end = least(rows.bases, 4096);
-    let start = least(rows.segments, end);
-    let all = &column[..];
-    &all[start..end]
+    // The indexes of the segments' exons.
+    pub fn segment_exons(&self, rows: Rows) -> &[u16]
+        ensures { result.now ≡ part rows.bounds rows.segments self.now.numbers }
+    {
+        part(&self.numbers, rows.bounds, rows.segments)
+    }
+
+    pub fn segment_starts(&self, rows: Rows) -> &[u64]
+        ensures { result.now ≡ part rows.bounds rows.segments self.now.starts }
+    {
+        part(&self.starts, rows.bounds, rows.segments)
+    }
+
+    pub fn segment_ends(&self, rows: Rows) -> &[u64]
+        ensures { result.now ≡ part rows.bounds rows.segments self.now.ends }
+    {
+        part(&self.ends, rows.bounds, rows.segments)
+    }
+
+    // The selenocysteine bases.
+    pub fn bases(&self, rows: Rows) -> &[u64]
+        ensures { result.now ≡ part rows.segments rows.bases self.now.starts }
+    {
+        part(&self.starts, rows.segments, rows.bases)
+    }
 }

@@ -1,96 +1,147 @@
 // The walk over the deck's links. The first bad link ends it.
-ghost use Rattle.std.specs.Prelude.{◌≤◌, ◌≡◌, ◌||◌, not, length, get_or, leb, eqb};
-ghost use Rattle.deck.specs.Records.{record_count, kind_of, lowest};
-ghost use Rattle.deck.specs.code.Order.{WalkEnds};
+ghost use Rattle.std.specs.Prelude.{◌≤◌, ◌<◌, ◌≡◌, ◌≢◌, ◌||◌, false, length, IfOk, IsTrue, MatchResult};
+ghost use Rattle.deck.specs.Records.{record_count, next_of, lowest};
+ghost use Rattle.deck.specs.Refused.{link_refusal};
+ghost use Rattle.deck.specs.Walk.{walk_deck, walked_as};
+ghost use Rattle.deck.specs.code.Order.{IsOrder};
+ghost use Rattle.deck.specs.code.Trail.{first_trail, with_record, is_bad, is_unreached, left, Before, Stops, Through};
 
-use super::record::RECORD_SIZE;
-use crate::links::{bounds_after, exon_link, link_of, next_link};
-use crate::record::kind_of;
+use crate::DeckRefusal;
+use crate::kind::Kind;
+use crate::links::{Link, bounds_after, exon_link, link_of, next_link};
+use crate::record::{RECORD_SIZE, kind_of};
+use common::refusal::Refusal;
 
-// How a walk ends: with all records reached, so many besides the head; or the record whose link is bad, else the lowest never reached.
-#[derive(Clone, Copy)]
-pub enum Walked {
-    All(usize),
-    Bad(usize),
+// The records reached so far: a mark for each, and besides the head their order and how many they are.
+#[derive(Drop)]
+pub(crate) struct Trail {
+    marks: [bool; 4096],
+    pub(crate) order: [u16; 4096],
+    pub(crate) count: usize,
 }
 
-// A link outside the deck, to a wrong kind, or to a record already reached.
-fn bad_link(d: &[u8], kind: u8, to: usize, reached: &[u8; 4096]) -> bool
-    requires { length d.now ≤ 65536 }
-    ensures { let deck = d.now in
-        result ≡ (leb (record_count deck) to || not (eqb (kind_of deck to) kind) || eqb (get_or reached.now to 0) 1) }
+// 24 of the record that holds a bad link, or that no link reaches.
+#[tactic(auto, unfolding(common::specs::Refusal::refusal))]
+fn link_refusal(i: usize) -> DeckRefusal
+    requires { i < 4096 }
+    ensures { result ≡ link_refusal i }
 {
-    if d.len() / RECORD_SIZE <= to {
-        return true;
+    DeckRefusal {
+        refusal: Refusal::Link,
+        record: i as u16,
     }
-    if kind_of(d, to) != kind {
-        return true;
-    }
-    reached[to] == 1
 }
 
-// The lowest of the first n records that is not reached, n where all are.
-fn first_unreached(reached: &[u8; 4096], n: usize) -> usize
-    requires { n ≤ 4096 }
-    ensures { result ≡ lowest (λ i. not (eqb (get_or reached.now i 0) 1)) n 0 }
-{
-    let mut i = 0;
-    while i < n {
-        if reached[i] != 1 {
-            return i;
+impl Trail {
+    // The head alone.
+    pub(crate) fn start() -> Trail
+        ensures { result ≡ first_trail }
+    {
+        let mut marks = [false; 4096];
+        marks[0] = true;
+        Trail {
+            marks,
+            order: [0; 4096],
+            count: 0,
         }
-        i += 1;
     }
-    i
-}
 
-// Every record reached from the head, in order. The first bad link ends the whole walk; else a record never reached is bad.
-pub(crate) fn walk(d: &[u8], order: &mut [u16; 4096]) -> Walked
-    requires { (16 ≤ length d.now) × (length d.now ≤ 65536) × (length order.old ≡ 4096) }
-    ensures { WalkEnds d.now result order.new }
-{
-    let mut reached = [0u8; 4096];
-    reached[0] = 1;
-    let mut n = 0;
-    let mut broken = false;
-    let mut bad = 0;
-    let mut from = 0;
-    let mut t = link_of(d, 0, 2);
-    'transcripts: while t != 0 {
-        if bad_link(d, 1, t, &reached) {
-            bad = from;
-            broken = true;
-            break 'transcripts;
+    // A link outside the deck, to a wrong kind, or to a record already reached.
+    fn is_bad(&self, d: &[u8], link: Link) -> bool
+        requires { length d.now ≤ 65536 }
+        ensures { result ≡ is_bad d.now link self.now }
+    {
+        d.len() / RECORD_SIZE <= link.to
+            || kind_of(d, link.to) != u8::from(link.kind)
+            || self.marks[link.to]
+    }
+
+    // The record that a link leads to is reached, unless the link is bad.
+    fn follow(&mut self, d: &[u8], link: Link) -> Result<(), DeckRefusal>
+        requires size { length d.now ≤ 65536 }
+        requires holder { link.from < record_count d.now }
+        requires room { is_bad d.now link self.old ≡ false → self.old.count < 4096 }
+        ensures { MatchResult result
+            (λ u. (is_bad d.now link self.old ≡ false) × (self.new ≡ with_record self.old link.to))
+            (λ e. IsTrue (is_bad d.now link self.old) × (e ≡ link_refusal link.from)) }
+    {
+        if self.is_bad(d, link) {
+            return Err(link_refusal(link.from));
         }
-        reached[t] = 1;
-        order[n] = t as u16;
-        n += 1;
+        self.marks[link.to] = true;
+        self.order[self.count] = link.to as u16;
+        self.count += 1;
+        Ok(())
+    }
+
+    // The records of transcript t, to which record `from` links: its exons, bounds, segments, selenocysteine bases.
+    fn walk_transcript(&mut self, d: &[u8], from: usize, t: usize) -> Result<(), DeckRefusal>
+        requires size { length d.now ≤ 65536 }
+        requires linked { t ≢ 0 }
+        requires before { Before d.now self.old from t }
+        ensures { MatchResult result
+            (λ u. Before d.now self.new t (next_of d.now t) × (left d.now self.new < left d.now self.old)) (λ e. Stops d.now e) }
+    {
+        self.follow(
+            d,
+            Link {
+                kind: Kind::Transcript,
+                from,
+                to: t,
+            },
+        )?;
         let mut b = 0;
         let mut link = exon_link(d, t, t, link_of(d, t, 10));
         while link.to != 0 {
-            let kind = link.kind;
-            let to = link.to;
-            if bad_link(d, kind, to, &reached) {
-                bad = link.from;
-                broken = true;
-                break 'transcripts;
-            }
-            reached[to] = 1;
-            order[n] = to as u16;
-            n += 1;
-            link = next_link(d, t, b, kind, to);
-            b = bounds_after(b, kind, to);
+            self.follow(d, link)?;
+            let reached = link;
+            link = next_link(d, t, b, reached.kind, reached.to);
+            b = bounds_after(b, reached.kind, reached.to);
         }
-        from = t;
-        t = link_of(d, t, 2);
+        Ok(())
     }
-    if broken {
-        return Walked::Bad(bad);
+
+    // The transcripts one behind the other, from the head on.
+    fn walk_transcripts(&mut self, d: &[u8]) -> Result<(), DeckRefusal>
+        requires { (16 ≤ length d.now) × (length d.now ≤ 65536) × (self.old ≡ first_trail) }
+        ensures { MatchResult result (λ u. Through d.now self.new) (λ e. Stops d.now e) }
+    {
+        let mut from = 0;
+        let mut t = link_of(d, 0, 2);
+        while t != 0 {
+            self.walk_transcript(d, from, t)?;
+            from = t;
+            t = link_of(d, t, 2);
+        }
+        Ok(())
     }
-    let count = d.len() / RECORD_SIZE;
-    let low = first_unreached(&reached, count);
-    if low < count {
-        return Walked::Bad(low);
+
+    // The lowest of the first n records that is not reached, n where all are.
+    #[tactic(auto, using(crate::proofs::Lowest::lowest_on, crate::proofs::Lowest::lowest_here, crate::proofs::Lowest::lowest_none))]
+    fn first_unreached(&self, n: usize) -> usize
+        requires { n ≤ 4096 }
+        ensures { result ≡ lowest (is_unreached self.now) n 0 }
+    {
+        for i in 0..n {
+            if !self.marks[i] {
+                return i;
+            }
+        }
+        n
     }
-    Walked::All(n)
+
+    // Every record reached from the head, in order. The first bad link ends the whole walk; else a record never reached is bad.
+    pub(crate) fn walk(&mut self, d: &[u8]) -> Result<usize, DeckRefusal>
+        requires { (16 ≤ length d.now) × (length d.now ≤ 65536) × (self.old ≡ first_trail) }
+        ensures value { result ≡ walked_as d.now (walk_deck d.now) }
+        ensures order_after { IfOk result (λ n. IsOrder d.now n self.new.order) }
+    {
+        self.walk_transcripts(d)?;
+        let count = d.len() / RECORD_SIZE;
+        let low = self.first_unreached(count);
+        if low < count {
+            return Err(link_refusal(low));
+        }
+        Ok(self.count)
+    }
 }

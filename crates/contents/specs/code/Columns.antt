@@ -1,9 +1,10 @@
 -- The columns that the lists of a transcript come from.
-use Rattle.std.specs.Prelude.{ℕ, ◌≡◌, List, length}
+use Rattle.std.specs.Prelude.{◌≡◌, length}
+use Rattle.deck.specs.declared.Table.{Table}
 
 -- they have one length
-pub record Columns (marks numbers starts ends : List ℕ) : Type 0 where
-  pub of_marks : length marks ≡ 4096
-  pub of_numbers : length numbers ≡ 4096
-  pub of_starts : length starts ≡ 4096
-  pub of_ends : length ends ≡ 4096
+pub record Columns (t : Table) : Type 0 where
+  pub of_marks : length t.marks ≡ 4096
+  pub of_numbers : length t.numbers ≡ 4096
+  pub of_starts : length t.starts ≡ 4096
+  pub of_ends : length t.ends ≡ 4096

@@ -1,50 +1,19 @@
--- The table of a deck: its records in the order of the walk, a column for each field. Each transcript stands as rows one behind
--- the other: the transcript, its exons, its bounds if it has them, its segments, its selenocysteine bases.
-use Rattle.std.specs.Prelude.{ℕ, zero, suc, ◌+◌, ◌-◌, ◌≤◌, ◌<◌, Bool, cond, not, ◌&&◌, List, [], ◌∷◌, map, length, get_or, take, drop, replicate, ltb, eqb}
-use Rattle.common.specs.Slices.{Slice, Passed, Lent, PassedLent}
+-- The table of a deck: its records in the order of the walk. Each transcript stands as rows one behind the other: the transcript, its
+-- exons, its bounds if it has them, its segments, its selenocysteine bases.
+use Rattle.std.specs.Prelude.{ℕ, zero, suc, ◌+◌, ◌-◌, min, ◌≡◌, ◌≤◌, ◌<◌, Bool, cond, not, ◌&&◌, List, [], ◌∷◌, map, length, get_or, take, drop, replicate, ltb, eqb, Option, Some, None, Result, Ok, Err}
 use Rattle.common.specs.Stored.{filled}
 use Rattle.transcript.specs.declared.CdsBounds.{CdsBounds}
-use Rattle.transcript.specs.declared.CdsBounds.TheVariants.{Neither, Both}
 use Rattle.transcript.specs.declared.Exon.{Exon}
 use Rattle.transcript.specs.declared.TranscriptModel.{TranscriptModel}
 use Rattle.transcript.specs.Transcript.{Transcript, exons_of, lent}
 use Rattle.transcript.specs.Admission.{admission_of}
-use Rattle.deck.specs.declared.DeckAnswer.{DeckAnswer}
-use Rattle.deck.specs.declared.DeckAnswer.TheVariants.{Accepted}
-use Rattle.deck.specs.declared.structure.Structure.{Structure}
+use Rattle.deck.specs.declared.DeckRefusal.{DeckRefusal}
+use Rattle.deck.specs.declared.Table.{Table}
 use Rattle.deck.specs.declared.rows.Rows.{Rows}
 use Rattle.deck.specs.Records.{lowest, kind_of, mark_of, half, word, transcript_kind, bounds_kind, exon_kind, segment_kind, selenocysteine_kind}
 use Rattle.deck.specs.Walk.{walk_deck}
 use Rattle.deck.specs.code.Order.{order_of}
 use Rattle.deck.specs.Deck.{strand_of, start_complete, tx_bounds, admitted_then, structure_of}
-
--- kind, mark, bytes 4..8 (an id, or a start), bytes 8..12 (an end), and a number (a transcript's chromosome, a segment's exon index);
--- behind the last record zeros
-pub record DeckTable : Type 0 where
-  pub kinds : List ℕ
-  pub marks : List ℕ
-  pub ids : List ℕ
-  pub numbers : List ℕ
-  pub starts : List ℕ
-  pub ends : List ℕ
-
--- the table whose columns are given, as a `requires` names them, and that was given, as an `ensures` does
-abbrev pub table_given : Slice → Slice → Slice → Slice → Slice → Slice → DeckTable
-table_given kinds marks ids numbers starts ends =
-    record { kinds = kinds.now; marks = marks.now; ids = ids.now; numbers = numbers.now; starts = starts.now; ends = ends.now }
-
-abbrev pub table_was_given : Passed → Passed → Passed → Passed → Passed → Passed → DeckTable
-table_was_given kinds marks ids numbers starts ends =
-    table_given kinds.entry marks.entry ids.entry numbers.entry starts.entry ends.entry
-
--- the table in columns lent to be filled, as a `requires` names them
-abbrev pub table_lent : Lent → Lent → Lent → Lent → Lent → Lent → DeckTable
-table_lent kinds marks ids numbers starts ends =
-    record { kinds = kinds.now; marks = marks.now; ids = ids.now; numbers = numbers.now; starts = starts.now; ends = ends.now }
-
--- the table that is left in columns lent to be filled
-abbrev pub table_left : PassedLent → PassedLent → PassedLent → PassedLent → PassedLent → PassedLent → DeckTable
-table_left kinds marks ids numbers starts ends = table_lent kinds.exit marks.exit ids.exit numbers.exit starts.exit ends.exit
 
 -- a column: one field of the records given, then zeros
 abbrev pub column : (ℕ → ℕ) → List ℕ → List ℕ
@@ -55,7 +24,7 @@ abbrev pub number_of : List ℕ → ℕ → ℕ
 number_of d i = cond (eqb (kind_of d i) transcript_kind) (half d i 8) (half d i 12)
 
 -- the records given as a table
-abbrev pub table_of : List ℕ → List ℕ → DeckTable
+abbrev pub table_of : List ℕ → List ℕ → Table
 table_of d records = record {
   kinds = column (kind_of d) records;
   marks = column (mark_of d) records;
@@ -65,7 +34,7 @@ table_of d records = record {
   ends = column (λ i. word d i 8) records;
 }
 
-abbrev pub empty_table : DeckTable
+abbrev pub empty_table : Table
 empty_table = record {
   kinds = replicate 4096 0;
   marks = replicate 4096 0;
@@ -96,75 +65,76 @@ rows_at kinds k =
     record { exons = exons; bounds = bounds; segments = segments; bases = run_end kinds selenocysteine_kind segments }
 
 -- the elements from one row up to another
-abbrev pub part : ℕ → ℕ → List ℕ → List ℕ
+abbrev pub part : {A : Type 0} → ℕ → ℕ → List A → List A
 part from to l = take (to - from) (drop from l)
+
+-- the exons' part of a column, and how many they are
+abbrev pub IsExonPart : ℕ → Rows → List ℕ → List ℕ → Type 0
+IsExonPart k r column exons = (exons ≡ part (k + 1) r.exons column) × (length exons ≡ min r.exons 4096 - (k + 1))
 
 -- rows in their order, inside the table
 abbrev pub InOrder : ℕ → Rows → Type 0
 InOrder k r = (k < r.exons) × (r.exons ≤ r.bounds) × (r.bounds ≤ r.segments) × (r.segments ≤ r.bases) × (r.bases ≤ 4096)
 
 -- the bounds behind the exons, if any stand there
-abbrev pub bounds_between : List ℕ → List ℕ → ℕ → ℕ → CdsBounds
-bounds_between starts ends exons bounds = cond (eqb bounds exons) Neither (Both (get_or starts exons 0) (get_or ends exons 0))
+abbrev pub bounds_between : List ℕ → List ℕ → ℕ → ℕ → Option CdsBounds
+bounds_between starts ends exons bounds = cond (eqb bounds exons) None (Some (record { cds_genomic_start = get_or starts exons 0; cds_genomic_end = get_or ends exons 0 }))
 
 -- the exons of the transcript at row k
-abbrev pub exons_in : List ℕ → List ℕ → ℕ → Rows → List Exon
-exons_in starts ends k r = exons_of (part (k + 1) r.exons starts) (part (k + 1) r.exons ends)
+abbrev pub exons_in : Table → ℕ → Rows → List Exon
+exons_in t k r = exons_of (part (k + 1) r.exons t.starts) (part (k + 1) r.exons t.ends)
 
 -- the scalars of the transcript at row k
-unfoldable pub model_in : List ℕ → List ℕ → List ℕ → List ℕ → List ℕ → ℕ → Rows → TranscriptModel
-model_in marks ids numbers starts ends k r = record {
-  id = get_or ids k 0;
-  chromosome = get_or numbers k 0;
-  strand = strand_of (get_or marks k 0);
-  exon_count = length (part (k + 1) r.exons starts);
-  tx_start = (tx_bounds (strand_of (get_or marks k 0)) (exons_in starts ends k r)).genomic_start;
-  tx_end = (tx_bounds (strand_of (get_or marks k 0)) (exons_in starts ends k r)).genomic_end;
-  cds = bounds_between starts ends r.exons r.bounds;
-  cds_start_complete = start_complete (get_or marks k 0);
+unfoldable pub model_in : Table → ℕ → Rows → TranscriptModel
+model_in t k r = record {
+  id = get_or t.ids k 0;
+  chromosome = get_or t.numbers k 0;
+  strand = strand_of (get_or t.marks k 0);
+  exon_count = length (part (k + 1) r.exons t.starts);
+  tx_start = (tx_bounds (strand_of (get_or t.marks k 0)) (exons_in t k r)).genomic_start;
+  tx_end = (tx_bounds (strand_of (get_or t.marks k 0)) (exons_in t k r)).genomic_end;
+  cds = bounds_between t.starts t.ends r.exons r.bounds;
+  cds_start_complete = start_complete (get_or t.marks k 0);
 }
 
--- the transcript at row k, from the columns and its rows
-unfoldable pub transcript_in : List ℕ → List ℕ → List ℕ → List ℕ → List ℕ → ℕ → Rows → Transcript
-transcript_in marks ids numbers starts ends k r =
-    lent (model_in marks ids numbers starts ends k r) (part (k + 1) r.exons starts) (part (k + 1) r.exons ends)
-    (part r.bounds r.segments marks) (part r.bounds r.segments numbers) (part r.bounds r.segments starts)
-    (part r.bounds r.segments ends) (part r.segments r.bases starts)
+-- the transcript at row k, from its rows
+unfoldable pub transcript_in : Table → ℕ → Rows → Transcript
+transcript_in t k r =
+    lent (model_in t k r) (part (k + 1) r.exons t.starts) (part (k + 1) r.exons t.ends)
+    (part r.bounds r.segments t.marks) (part r.bounds r.segments t.numbers) (part r.bounds r.segments t.starts)
+    (part r.bounds r.segments t.ends) (part r.segments r.bases t.starts)
 
--- the transcript in columns that are given, and that were given
-abbrev pub transcript_given : Slice → Slice → Slice → Slice → Slice → ℕ → Rows → Transcript
-transcript_given marks ids numbers starts ends k r = transcript_in marks.now ids.now numbers.now starts.now ends.now k r
+abbrev pub transcript_at : Table → ℕ → Transcript
+transcript_at t k = transcript_in t k (rows_at t.kinds k)
 
-abbrev pub transcript_was_given : Passed → Passed → Passed → Passed → Passed → ℕ → Rows → Transcript
-transcript_was_given marks ids numbers starts ends k r = transcript_given marks.entry ids.entry numbers.entry starts.entry ends.entry k r
-
-abbrev pub transcript_at : DeckTable → ℕ → Transcript
-transcript_at t k = transcript_in t.marks t.ids t.numbers t.starts t.ends k (rows_at t.kinds k)
+-- the rows of the transcript at row k, if one stands there
+abbrev pub transcript_rows_at : List ℕ → ℕ → Option Rows
+transcript_rows_at kinds k = cond (is_kind kinds transcript_kind k) (Some (rows_at kinds k)) None
 
 -- the rows of transcripts one behind the other, from row k on; no more than n of them
 unfoldable pub rows_from : ℕ → List ℕ → ℕ → List ℕ
 rows_from zero kinds k = []
 rows_from (suc n) kinds k = cond (is_kind kinds transcript_kind k) (k ∷ rows_from n kinds (rows_at kinds k).bases) []
 
-abbrev pub transcript_rows : DeckTable → List ℕ
+abbrev pub transcript_rows : Table → List ℕ
 transcript_rows t = rows_from 4096 t.kinds 0
 
 -- the transcripts of a table
-abbrev pub table_transcripts : DeckTable → List Transcript
+abbrev pub table_transcripts : Table → List Transcript
 table_transcripts t = map (transcript_at t) (transcript_rows t)
 
 -- the first refused transcript of the rows, with its record
-unfoldable pub admit_rows : List ℕ → DeckTable → List ℕ → DeckAnswer
-admit_rows records t [] = Accepted
+unfoldable pub admit_rows : List ℕ → Table → List ℕ → Result Unit DeckRefusal
+admit_rows records t [] = Ok tt
 admit_rows records t (k ∷ ks) = admitted_then (admission_of (transcript_at t k)) (get_or records k 0) (admit_rows records t ks)
 
-abbrev pub admit_table : List ℕ → DeckTable → DeckAnswer
+abbrev pub admit_table : List ℕ → Table → Result Unit DeckRefusal
 admit_table records t = admit_rows records t (transcript_rows t)
 
 -- the table of a deck whose records and links are sound; of any other, zeros
-abbrev pub table_by : List ℕ → Structure → DeckTable
-table_by d (Structure.Records n) = table_of d (order_of (walk_deck d))
-table_by d (Structure.Refused n i) = empty_table
+abbrev pub table_by : List ℕ → Result ℕ DeckRefusal → Table
+table_by d (Ok n) = table_of d (order_of (walk_deck d))
+table_by d (Err e) = empty_table
 
-unfoldable pub deck_table : List ℕ → DeckTable
+unfoldable pub deck_table : List ℕ → Table
 deck_table d = table_by d (structure_of d)
