@@ -1,13 +1,16 @@
 -- How long each column can be, and the line of a call.
 -- Assumes nothing.
+use Rattle.common.specs.Refusal.{refusal}
+use Rattle.std.specs.Prelude.{Err, Ok}
+use Rattle.std.proofs.Common.{Option, Some, None}
 use Prim.Native.Nat.{ℕ, ◌≤◌}
 use mathlib.Core.Path.{refl}
 use mathlib.Core.List.{List, [], ◌∷◌}
 use native.Mathlib.Omega.{arith}
 use lib.ListN.{length, length-append}
 use Rattle.common.specs.Text.{byte, decimal}
-use Rattle.common.specs.Lists.{all}
 use Rattle.common.proofs.Digits.{digits_length}
+use Rattle.common.specs.Refusal.{number}
 use Rattle.codon.specs.declared.Codons.{Codons}
 use Rattle.codon.specs.declared.AminoAcids.{AminoAcids}
 use Rattle.codon.specs.Display.{format_codon, format_codons, format_amino_acids}
@@ -15,8 +18,7 @@ use Rattle.locate.specs.declared.VariantLocation.{VariantLocation}
 use Rattle.locate.specs.PlaceKind.{place_kind, place_names, place_name}
 use Rattle.names.proofs.Names.{short_texts}
 use Rattle.consequence.specs.declared.Numbered.{Numbered}
-use Rattle.consequence.specs.declared.Counted.{Counted}
-use Rattle.consequence.specs.declared.Called.{Called}
+use Rattle.consequence.specs.Called.{Called}
 use Rattle.consequence.specs.declared.ConsequenceResult.{ConsequenceResult}
 use Rattle.consequence.specs.Answer.{cdna_count}
 use Rattle.lines.specs.Line.{joined, numbered, counted, answer_line, refusal_line, called_line}
@@ -25,35 +27,35 @@ use Rattle.lines.proofs.Shown.{codon_length_lem}
 use Rattle.lines.proofs.TermList.{terms_length}
 
 place_length : (p : VariantLocation) → length (place_name p) ≤ 16
-unfolding place_names all
+unfolding place_names
 place_length p = short_texts 16 place_names refl (place_kind p)
 
-pub numbered_length : (n : Numbered) → length (numbered n) ≤ 41
-numbered_length Numbered.Absent = omega arith
-numbered_length (Numbered.Of k n) =
-    let a = length-append (decimal k) (byte "/" ∷ decimal n) in
-    let b = digits_length 20 k in
-    let c = digits_length 20 n in
+pub numbered_length : (n : Option Numbered) → length (numbered n) ≤ 41
+numbered_length None = omega arith
+numbered_length (Some n) =
+    let a = length-append (decimal n.number) (byte "/" ∷ decimal n.total) in
+    let b = digits_length 20 n.number in
+    let c = digits_length 20 n.total in
     omega arith
 
-counted_length : (n : Counted) → length (counted n) ≤ 20
-counted_length Counted.Absent = omega arith
-counted_length (Counted.At n) = digits_length 20 n
+counted_length : (n : Option ℕ) → length (counted n) ≤ 20
+counted_length None = omega arith
+counted_length (Some n) = digits_length 20 n
 
-pub codons_length : (c : Codons) → length (format_codons c) ≤ 7
+pub codons_length : (c : Option Codons) → length (format_codons c) ≤ 7
 unfolding format_codons
-codons_length Codons.Absent = omega arith
-codons_length (Codons.Change r a place) =
-    let x = length-append (format_codon r place) (byte "/" ∷ format_codon a place) in
-    let y = codon_length_lem r place in
-    let z = codon_length_lem a place in
+codons_length None = omega arith
+codons_length (Some c) =
+    let x = length-append (format_codon c.reference c.place) (byte "/" ∷ format_codon c.altered c.place) in
+    let y = codon_length_lem c.reference c.place in
+    let z = codon_length_lem c.altered c.place in
     omega arith
 
-letters_length : (a : AminoAcids) → length (format_amino_acids a) ≤ 3
+letters_length : (a : Option AminoAcids) → length (format_amino_acids a) ≤ 3
 unfolding format_amino_acids
-letters_length AminoAcids.Absent = omega arith
-letters_length (AminoAcids.One a) = omega arith
-letters_length (AminoAcids.Change r a) = omega arith
+letters_length None = omega arith
+letters_length (Some (AminoAcids.One a)) = omega arith
+letters_length (Some (AminoAcids.Change r a)) = omega arith
 
 pub answer_length : (number id : ℕ) (a : ConsequenceResult) → length (answer_line number id a) ≤ 1553
 unfolding answer_line joined
@@ -80,8 +82,8 @@ refusal_length a b c =
     simp length-append (omega arith)
 
 pub longest_line : LongestLine
-longest_line number id (Called.Answered a) = answer_length number id a
-longest_line number id (Called.Refused n) = let l = refusal_length number id n in omega arith
+longest_line line id (Ok a) = answer_length line id a
+longest_line line id (Err refusal) = let l = refusal_length line id (number refusal) in omega arith
 
 -- every line has its newline
 joined_some : (between last : ℕ) (ls : List (List ℕ)) → 1 ≤ length (joined between last ls)
@@ -92,5 +94,5 @@ joined_some between last (l ∷ k ∷ ks) = simp length-append (omega arith)
 
 pub line_some : (number id : ℕ) (c : Called) → 1 ≤ length (called_line number id c)
 unfolding answer_line refusal_line
-line_some number id (Called.Answered a) = joined_some 32 10 _
-line_some number id (Called.Refused n) = joined_some 32 10 _
+line_some number id (Ok a) = joined_some 32 10 _
+line_some number id (Err r) = joined_some 32 10 _

@@ -3,13 +3,11 @@
 use mathlib.Core.Path.{refl}
 use lib.ListN.{length}
 use lib.Dec.{ltb}
-use Rattle.common.specs.Lists.{any}
 use Rattle.common.proofs.TestParts.{on_test, leb_not_ltb}
 use Rattle.lines.specs.Line.{fits}
 use Rattle.lines.specs.claims.Numbers.{LineGiven, LineValued}
 
 pub line_given : LineGiven
-unfolding any
 line_given buffer line = on_test (ltb (length buffer) (length line))
     (λ e. rw (leb_not_ltb (length line) (length buffer), e) (record { refusal_is = refl; among = refl; zero_answered = refl }))
     (λ e. rw (leb_not_ltb (length line) (length buffer), e) (record { refusal_is = refl; among = refl; zero_answered = refl }))

@@ -1,26 +1,13 @@
 -- Codons as they are shown.
 -- Assumes nothing.
-use Prim.Native.Nat.{ℕ, ◌+◌, ◌≤◌, ◌<◌}
+use Prim.Native.Nat.{ℕ, ◌≤◌}
 use mathlib.Core.Path.{◌≡◌}
 use mathlib.Core.List.{[], ◌∷◌, ◌++◌}
 use native.Mathlib.Omega.{arith}
 use lib.ListN.{length, length-take}
 use lib.Seq.{take_all}
-use borrow.Author.Tests.{le-leb, lt-leb}
 use Rattle.codon.specs.declared.Codon.{Codon}
-use Rattle.codon.specs.Display.{lowercase, shown, format_codon}
-
-pub low_stays : (b : ℕ) → b < 65 → b ≡ lowercase b
-unfolding lowercase
-low_stays b h = rw (lt-leb 65 b h)
-
-pub high_stays : (b : ℕ) → 90 < b → b ≡ lowercase b
-unfolding lowercase
-high_stays b h = rw (le-leb 65 b (omega arith), lt-leb b 90 h)
-
-pub capital : (b : ℕ) → 65 ≤ b → b ≤ 90 → b + 32 ≡ lowercase b
-unfolding lowercase
-capital b h l = rw (le-leb 65 b h, le-leb b 90 l)
+use Rattle.codon.specs.Display.{shown, format_codon}
 
 module _ (c : Codon) (place : ℕ) where
   pub codon_0 : c.len ≡ 0 → format_codon c place ≡ []

@@ -1,16 +1,17 @@
 -- The printed lines.
-use Rattle.std.specs.Prelude.{ℕ, Bool, cond, List, [], ◌∷◌, ◌++◌, map, length, drop, leb}
+use Rattle.std.specs.Prelude.{ℕ, Bool, cond, List, [], ◌∷◌, ◌++◌, map, length, drop, leb, Option, Some, None, Result, Ok, Err}
 use Rattle.common.specs.Text.{byte, bytes, decimal}
+use Rattle.common.specs.declared.refusal.Refusal.{Refusal}
+use Rattle.common.specs.Refusal.{number}
+use Rattle.common.specs.declared.refusal.Refusal.TheVariants.{LineLength}
 use Rattle.codon.specs.Display.{format_codons, format_amino_acids}
 use Rattle.locate.specs.PlaceKind.{place_name}
 use Rattle.consequence.specs.declared.Numbered.{Numbered}
-use Rattle.consequence.specs.declared.Counted.{Counted}
 use Rattle.consequence.specs.Answer.{cdna_count}
 use Rattle.consequence.specs.declared.ConsequenceResult.{ConsequenceResult}
-use Rattle.consequence.specs.declared.Called.{Called}
+use Rattle.consequence.specs.Called.{Called}
 use Rattle.names.specs.Names.{term_name}
 use Rattle.terms.specs.Terms.{ranks}
-use Rattle.lines.specs.declared.Written.{Written}
 
 abbrev pub newline : ℕ
 newline = 10
@@ -28,13 +29,13 @@ abbrev pub line_of : List (List ℕ) → List ℕ
 line_of fs = joined space newline fs
 
 -- k/n, `-` for absent
-abbrev pub numbered : Numbered → List ℕ
-numbered Numbered.Absent = bytes "-"
-numbered (Numbered.Of k n) = decimal k ++ (byte "/" ∷ decimal n)
+abbrev pub numbered : Option Numbered → List ℕ
+numbered None = bytes "-"
+numbered (Some n) = decimal n.number ++ (byte "/" ∷ decimal n.total)
 
-abbrev pub counted : Counted → List ℕ
-counted Counted.Absent = bytes "-"
-counted (Counted.At n) = decimal n
+abbrev pub counted : Option ℕ → List ℕ
+counted None = bytes "-"
+counted (Some n) = decimal n
 
 -- names with commas between, `-` for none
 unfoldable pub commas : List (List ℕ) → List ℕ
@@ -58,15 +59,15 @@ unfoldable pub refusal_line : ℕ → ℕ → ℕ → List ℕ
 refusal_line a b c = line_of (decimal a ∷ decimal b ∷ decimal c ∷ [])
 
 abbrev pub called_line : ℕ → ℕ → Called → List ℕ
-called_line number id (Called.Answered a) = answer_line number id a
-called_line number id (Called.Refused n) = refusal_line number id n
+called_line line id (Ok a) = answer_line line id a
+called_line line id (Err r) = refusal_line line id (number r)
 
--- 28: a line, newline included, longer than the lent buffer, and only then
+-- a line, newline included, longer than the lent buffer is refused, and only then
 abbrev pub fits : List ℕ → List ℕ → Bool
 fits buffer line = leb (length line) (length buffer)
 
-abbrev pub write_answer : List ℕ → List ℕ → Written
-write_answer buffer line = cond (fits buffer line) (Written.Bytes (length line)) (Written.Refused 28)
+abbrev pub write_answer : List ℕ → List ℕ → Result ℕ Refusal
+write_answer buffer line = cond (fits buffer line) (Ok (length line)) (Err LineLength)
 
 -- the lent bytes afterwards: the line and what stood behind it; a refusal leaves them unchanged
 abbrev pub written_to : List ℕ → List ℕ → List ℕ

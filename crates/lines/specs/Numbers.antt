@@ -1,16 +1,12 @@
--- What each case of a written line stands for: its refusal number, 0 where the line fits, and its length.
-use Rattle.std.specs.Prelude.{ℕ, Bool, true, false, List, [], ◌∷◌}
-use Rattle.lines.specs.declared.Written.{Written}
-
-abbrev pub written_number : Written → ℕ
-written_number (Written.Bytes n) = 0
-written_number (Written.Refused n) = n
+-- What each case of a written line stands for: its length. Its refusal number, 0 where the line fits, is `outcome_number`.
+use Rattle.std.specs.Prelude.{ℕ, Bool, true, false, List, [], ◌∷◌, Result, Ok, Err}
+use Rattle.common.specs.declared.refusal.Refusal.{Refusal}
 
 -- how many bytes were written
-abbrev pub written_values : Written → List ℕ
-written_values (Written.Bytes n) = n ∷ []
-written_values (Written.Refused n) = []
+abbrev pub written_values : Result ℕ Refusal → List ℕ
+written_values (Ok n) = n ∷ []
+written_values (Err r) = []
 
-abbrev pub is_written : Written → Bool
-is_written (Written.Bytes n) = true
-is_written (Written.Refused n) = false
+abbrev pub is_written : Result ℕ Refusal → Bool
+is_written (Ok n) = true
+is_written (Err r) = false

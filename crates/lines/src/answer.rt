@@ -4,24 +4,25 @@ ghost use Rattle.common.specs.Stored.{Pushed};
 ghost use Rattle.lines.specs.Line.{answer_line, write_answer, written_to};
 ghost use Rattle.lines.specs.code.Columns.{front_columns, number_columns, back_columns};
 
-use crate::Written;
 use crate::columns::{
     push_cdna, push_codons, push_counted, push_letters, push_numbered, push_terms,
 };
 use crate::line::push_number;
-use crate::places::{place_kind, push_place};
-use common::text::push_byte;
+use crate::places::place_name;
+use common::refusal::Refusal;
+use common::text::{push_byte, push_bytes};
 use consequence::ConsequenceResult;
+use locate::VariantLocation;
 
 // Line number, id, 0 and place, a space behind each.
-fn push_front(out: &mut [u8], number: u64, id: u64, kind: u8) -> usize
-    ensures pushed { Pushed out.old 0 (front_columns number id kind) out.new result }
+fn push_front(out: &mut [u8], number: u64, id: u64, place: VariantLocation) -> usize
+    ensures pushed { Pushed out.old 0 (front_columns number id place) out.new result }
     ensures upper_bound { result ≤ 100 }
 {
     let a = push_number(out, 0, number, 32);
     let b = push_number(out, a, id, 32);
     let c = push_number(out, b, 0, 32);
-    let d = push_place(out, c, kind);
+    let d = push_bytes(out, c, place_name(place));
     push_byte(out, d, 32)
 }
 
@@ -70,33 +71,24 @@ fn push_answer(out: &mut [u8], number: u64, id: u64, x: ConsequenceResult) -> us
     ensures pushed { Pushed out.old 0 (answer_line number id x) out.new result }
     ensures upper_bound { result ≤ 1553 }
 {
-    let location = x.location;
-    let kind = place_kind(location);
-    let a = push_front(out, number, id, kind);
+    let a = push_front(out, number, id, x.location);
     let b = push_numbers(out, a, x);
     push_back(out, b, x)
 }
 
-// The line of an answered call in a buffer of any length: measured first, then put, or 28.
-fn write_measured(out: &mut [u8], number: u64, id: u64, x: ConsequenceResult) -> Written
+// The line of an answered call and its length, or `LineLength` where it does not fit. No line has over 1553 bytes; where it might not
+// fit, it is measured on an empty buffer first.
+pub fn write_answer(
+    out: &mut [u8],
+    number: u64,
+    id: u64,
+    x: ConsequenceResult,
+) -> Result<usize, Refusal>
     ensures { let line = answer_line number id x in
         (result ≡ write_answer out.old line) × (out.new ≡ written_to out.old line) }
 {
-    let n = push_answer(&mut out[..0], number, id, x);
-    if out.len() < n {
-        return Written::Refused(28);
+    if out.len() < 1553 && out.len() < push_answer(&mut [], number, id, x) {
+        return Err(Refusal::LineLength);
     }
-    push_answer(out, number, id, x);
-    Written::Bytes(n)
-}
-
-// The line of an answered call, or 28 where it does not fit. No line has over 1553 bytes.
-pub fn write_answer(out: &mut [u8], number: u64, id: u64, x: ConsequenceResult) -> Written
-    ensures { let line = answer_line number id x in
-        (result ≡ write_answer out.old line) × (out.new ≡ written_to out.old line) }
-{
-    if out.len() < 1553 {
-        return write_measured(out, number, id, x);
-    }
-    Written::Bytes(push_answer(out, number, id, x))
+    Ok(push_answer(out, number, id, x))
 }

@@ -2,18 +2,18 @@
 ghost use Rattle.std.specs.Prelude.{◌≡◌};
 ghost use Rattle.lines.specs.Line.{called_line, write_answer, written_to};
 
-use crate::Written;
 use crate::answer::write_answer;
 use crate::line::write_refusal;
+use common::refusal::Refusal;
 use consequence::Called;
 
-// The line of a call's answer, or 28 where it does not fit.
-pub fn write_called(out: &mut [u8], number: u64, id: u32, called: Called) -> Written
+// The line of a call's answer and its length, newline included, or `LineLength` where it does not fit.
+pub fn write_called(out: &mut [u8], number: u64, id: u32, called: Called) -> Result<usize, Refusal>
     ensures { let line = called_line number id called in
         (result ≡ write_answer out.old line) × (out.new ≡ written_to out.old line) }
 {
     match called {
-        Called::Answered(x) => write_answer(out, number, id as u64, x),
-        Called::Refused(refusal) => write_refusal(out, number, id as u64, refusal as u64),
+        Ok(x) => write_answer(out, number, u64::from(id), x),
+        Err(refusal) => write_refusal(out, number, u64::from(id), u64::from(u8::from(refusal))),
     }
 }

@@ -8,10 +8,3 @@ pub mod line;
 mod places;
 
 pub use called::write_called;
-
-// A line put into a lent buffer: its length with the newline, or the number of the refusal.
-#[derive(Clone, Copy)]
-pub enum Written {
-    Bytes(usize),
-    Refused(u8),
-}

@@ -4,7 +4,7 @@ ghost use Rattle.common.specs.Text.{decimal};
 ghost use Rattle.common.specs.Stored.{Pushed};
 ghost use Rattle.lines.specs.Line.{refusal_line, write_answer, written_to};
 
-use crate::Written;
+use common::refusal::Refusal;
 use common::text::{push_byte, push_decimal};
 
 // A number and the byte behind it.
@@ -27,26 +27,14 @@ fn push_refusal(out: &mut [u8], a: u64, b: u64, c: u64) -> usize
     push_number(out, third, c, 10)
 }
 
-// The line of a refusal in a buffer of any length: measured first, then put, or 28.
-fn write_measured(out: &mut [u8], a: u64, b: u64, c: u64) -> Written
+// The line of a refusal and its length, or `LineLength` where it does not fit. No such line has over 63 bytes; where it might not fit,
+// it is measured on an empty buffer first.
+pub fn write_refusal(out: &mut [u8], a: u64, b: u64, c: u64) -> Result<usize, Refusal>
     ensures { let line = refusal_line a b c in
         (result ≡ write_answer out.old line) × (out.new ≡ written_to out.old line) }
 {
-    let n = push_refusal(&mut out[..0], a, b, c);
-    if out.len() < n {
-        return Written::Refused(28);
+    if out.len() < 63 && out.len() < push_refusal(&mut [], a, b, c) {
+        return Err(Refusal::LineLength);
     }
-    push_refusal(out, a, b, c);
-    Written::Bytes(n)
-}
-
-// The line of a refusal, or 28 where it does not fit. No such line has over 63 bytes.
-pub fn write_refusal(out: &mut [u8], a: u64, b: u64, c: u64) -> Written
-    ensures { let line = refusal_line a b c in
-        (result ≡ write_answer out.old line) × (out.new ≡ written_to out.old line) }
-{
-    if out.len() < 63 {
-        return write_measured(out, a, b, c);
-    }
-    Written::Bytes(push_refusal(out, a, b, c))
+    Ok(push_refusal(out, a, b, c))
 }

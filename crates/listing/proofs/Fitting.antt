@@ -4,12 +4,11 @@ use Prim.Native.Nat.{ℕ, suc, ◌+◌, ◌≤◌}
 use mathlib.Core.List.{List, [], ◌∷◌, ◌++◌}
 use lib.ListN.{length, drop}
 use Rattle.transcript.specs.Transcript.{Transcript}
-use Rattle.consequence.specs.declared.Called.{Called}
 use Rattle.consequence.specs.Window.{Window}
 use Rattle.deck.specs.Deck.{deck_transcripts}
 use Rattle.lines.proofs.Longest.{longest_line, line_some}
-use Rattle.listing.specs.declared.Opening.{Opening}
-use Rattle.listing.specs.declared.Opening.TheVariants.{Listing, Refused}
+use Rattle.std.specs.Prelude.{Result, Ok, Err}
+use Rattle.deck.specs.declared.DeckRefusal.{DeckRefusal}
 use Rattle.listing.specs.declared.Cursor.{Cursor}
 use Rattle.listing.specs.Calls.{lines_of, parse_call}
 use Rattle.listing.specs.WindowFile.{window_of}
@@ -44,11 +43,11 @@ lines_fit ts w number at k (l ∷ ls) =
     each_both Fitting (call_steps at k (drop k (call_entries ts w number (parse_call l)))) (steps_from ts w (suc number) (at + length l) 0 ls)
     (call_fits at k (drop k (call_entries ts w number (parse_call l)))) (lines_fit ts w (suc number) (at + length l) 0 ls)
 
-by : (o : Opening) (deck window calls : List ℕ) (c : Cursor) → Each Fitting (steps_by o deck window calls c)
-by (Refused i n) deck window calls c =
-    let e : Entry = record { number = 0; id = i; answer = Called.Refused n } in
+by : (o : Result Unit DeckRefusal) (deck window calls : List ℕ) (c : Cursor) → Each Fitting (steps_by o deck window calls c)
+by (Err r) deck window calls c =
+    let e : Entry = record { number = 0; id = r.«record»; answer = Err r.refusal } in
     ((some e, longest_entry e), tt)
-by Listing deck window calls c =
+by (Ok x) deck window calls c =
     lines_fit (deck_transcripts deck) (window_of window) (line_number calls c.at) c.at c.entry (lines_of (drop c.at calls))
 
 pub steps_fit : (deck window calls : List ℕ) (c : Cursor) → Each Fitting (steps deck window calls c)

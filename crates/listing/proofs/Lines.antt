@@ -1,18 +1,16 @@
 -- Lines and fields found by a position.
 -- Assumes nothing.
-use Prim.Native.Nat.{ℕ, suc, ◌+◌, ◌≤◌, ◌<◌}
+use Prim.Native.Nat.{ℕ, zero, suc, ◌+◌, ◌≤◌, ◌<◌}
 use mathlib.Core.Path.{◌≡◌, refl}
 use mathlib.Core.Bool.{Bool, true, false, cond}
 use mathlib.Core.List.{List, [], ◌∷◌}
 use native.Mathlib.Omega.{arith}
-use native.Mathlib.Numerals.{add-one}
-use lib.ListN.{length, get_or, take, drop, length-drop, drop_of_length-le}
-use lib.Seq.{drop-cons, drop-length}
+use lib.ListN.{length, get_or, take, drop, length-drop}
 use lib.Dec.{eqb}
 use borrow.Author.Tests.{eq-eqb, ne_eqb, eqb-true}
-use Rattle.lines.specs.Line.{newline, space}
+use Rattle.lines.specs.Line.{newline}
 use Rattle.listing.specs.Calls.{lines_of}
-use Rattle.listing.specs.code.Lengths.{line_length, field_length}
+use Rattle.listing.specs.code.Lengths.{line_length}
 
 -- the first line and the lines behind it
 lines_here : (t : Bool) (b : ℕ) (bs : List ℕ) → eqb b newline ≡ t → lines_of bs ≡ take (line_length bs) bs ∷ lines_of (drop (line_length bs) bs)
@@ -31,24 +29,15 @@ lines_step [] h = absurd (omega arith)
 lines_step (b ∷ []) h = lines_last (eqb b newline) b refl
 lines_step (b ∷ a ∷ s) h = lines_here (eqb b newline) b (a ∷ s) refl (lines_step (a ∷ s) (omega arith))
 
--- a step of the search for the line's end
-pub line_on : (s : List ℕ) (i : ℕ) → i < length s → (get_or s i 0 ≡ newline → ⊥) → line_length (drop i s) ≡ suc (line_length (drop (i + 1) s))
-line_on s i l h = rw (drop-cons s i 0 l, ne_eqb (get_or s i 0) newline h, add-one)
+-- the first newline ends the line
+pub line_to : (s : List ℕ) (k : ℕ) → k < length s → get_or s k 0 ≡ newline → ((j : ℕ) → j < k → get_or s j 0 ≡ newline → ⊥) → line_length s ≡ suc k
+line_to [] k l e h = absurd (omega arith)
+line_to (b ∷ bs) zero l e h = rw (eq-eqb b newline e)
+line_to (b ∷ bs) (suc k) l e h = rw (ne_eqb b newline (h 0 (omega arith)), line_to bs k (omega arith) e (λ j m. h (suc j) (omega arith)))
 
-pub line_stop : (s : List ℕ) (i : ℕ) → i < length s → get_or s i 0 ≡ newline → line_length (drop i s) ≡ 1
-line_stop s i l h = rw (drop-cons s i 0 l, eq-eqb (get_or s i 0) newline h)
-
-pub line_none : (s : List ℕ) (i : ℕ) → length s ≤ i → line_length (drop i s) ≡ 0
-line_none s i e = rw (drop_of_length-le s e)
-
-pub field_on : (s : List ℕ) (i : ℕ) → i < length s → (get_or s i 0 ≡ space → ⊥) → field_length (drop i s) ≡ suc (field_length (drop (i + 1) s))
-field_on s i l h = rw (drop-cons s i 0 l, ne_eqb (get_or s i 0) space h, add-one)
-
-pub field_stop : (s : List ℕ) (i : ℕ) → i < length s → get_or s i 0 ≡ space → field_length (drop i s) ≡ 0
-field_stop s i l h = rw (drop-cons s i 0 l, eq-eqb (get_or s i 0) space h)
-
-pub field_none : (s : List ℕ) (i : ℕ) → i ≡ length s → field_length (drop i s) ≡ 0
-field_none s i e = rw (e, drop-length)
+pub line_last : (s : List ℕ) → ((j : ℕ) → j < length s → get_or s j 0 ≡ newline → ⊥) → line_length s ≡ length s
+line_last [] h = refl
+line_last (b ∷ bs) h = rw (ne_eqb b newline (h 0 (omega arith)), line_last bs (λ j m. h (suc j) (omega arith)))
 
 -- a line is not empty and ends within the bytes
 line_some : (t : Bool) (m n : ℕ) → m ≤ n → (0 < cond t 1 (suc m)) × (cond t 1 (suc m) ≤ suc n)

@@ -11,25 +11,8 @@ use lib.ListN.{length, get_or, drop}
 use lib.Seq.{drop-cons, drop-length}
 use lib.Dec.{eqb, leb}
 use borrow.Author.Tests.{eq-eqb, ne_eqb, le-leb, lt-leb, leb-true}
-use Rattle.common.specs.Lists.{all}
+use Rattle.std.specs.List.{list_all}
 use Rattle.listing.specs.Calls.{is_digit, is_number, value_from, value}
-
--- the digits, one at a time
-pub digit_on : (s : List ℕ) (i : ℕ) → i < length s → 48 ≤ get_or s i 0 → get_or s i 0 ≤ 57 → all is_digit (drop i s) ≡ all is_digit (drop (i + 1) s)
-unfolding all
-digit_on s i l a b = rw (drop-cons s i 0 l, le-leb 48 (get_or s i 0) a, le-leb (get_or s i 0) 57 b, add-one)
-
-pub digit_low : (s : List ℕ) (i : ℕ) → i < length s → get_or s i 0 < 48 → all is_digit (drop i s) ≡ false
-unfolding all
-digit_low s i l a = rw (drop-cons s i 0 l, lt-leb 48 (get_or s i 0) a)
-
-pub digit_high : (s : List ℕ) (i : ℕ) → i < length s → 57 < get_or s i 0 → all is_digit (drop i s) ≡ false
-unfolding all
-digit_high s i l a = rw (drop-cons s i 0 l, le-leb 48 (get_or s i 0) (omega arith), lt-leb (get_or s i 0) 57 a)
-
-pub digit_none : (s : List ℕ) (i : ℕ) → i ≡ length s → all is_digit (drop i s) ≡ true
-unfolding all
-digit_none s i e = rw (e, drop-length)
 
 -- the shape of a number, by cases
 module _ (most : ℕ) (l : List ℕ) where
@@ -41,15 +24,15 @@ module _ (most : ℕ) (l : List ℕ) where
   unfolding is_number
   number_long h = rw (le-leb 1 (length l) (omega arith), lt-leb (length l) most h)
 
-  pub number_letter : 0 < length l → length l ≤ most → all is_digit l ≡ false → false ≡ is_number most l
+  pub number_letter : 0 < length l → length l ≤ most → list_all is_digit l ≡ false → false ≡ is_number most l
   unfolding is_number
   number_letter a b e = rw (le-leb 1 (length l) (omega arith), le-leb (length l) most b, e)
 
-  pub number_one : length l ≡ 1 → length l ≤ most → all is_digit l ≡ true → true ≡ is_number most l
+  pub number_one : length l ≡ 1 → length l ≤ most → list_all is_digit l ≡ true → true ≡ is_number most l
   unfolding is_number
   number_one a b e = rw (le-leb 1 (length l) (omega arith), le-leb (length l) most b, e, eq-eqb (length l) 1 a)
 
-  pub number_more : 1 < length l → length l ≤ most → all is_digit l ≡ true → not (eqb (get_or l 0 0) 48) ≡ is_number most l
+  pub number_more : 1 < length l → length l ≤ most → list_all is_digit l ≡ true → not (eqb (get_or l 0 0) 48) ≡ is_number most l
   unfolding is_number
   number_more a b e = rw (le-leb 1 (length l) (omega arith), le-leb (length l) most b, e, ne_eqb (length l) 1 (λ z. omega arith))
 
@@ -59,25 +42,24 @@ both true b e = (refl, e)
 both false b e = absurd (let z : ◌≡◌ {A = ℕ} 0 1 = cc in omega arith)
 
 module _ (most : ℕ) (l : List ℕ) (h : is_number most l ≡ true) where
-  shape : ((leb 1 (length l) && leb (length l) most) && all is_digit l) ≡ true
+  shape : ((leb 1 (length l) && leb (length l) most) && list_all is_digit l) ≡ true
   unfolding is_number
-  shape = (both ((leb 1 (length l) && leb (length l) most) && all is_digit l) (eqb (length l) 1 || not (eqb (get_or l 0 0) 48)) h).0
+  shape = (both ((leb 1 (length l) && leb (length l) most) && list_all is_digit l) (eqb (length l) 1 || not (eqb (get_or l 0 0) 48)) h).0
 
-  pub number_digits : all is_digit l ≡ true
-  number_digits = (both (leb 1 (length l) && leb (length l) most) (all is_digit l) shape).1
+  pub number_digits : list_all is_digit l ≡ true
+  number_digits = (both (leb 1 (length l) && leb (length l) most) (list_all is_digit l) shape).1
 
   pub number_short : length l ≤ most
   number_short =
-      leb-true (length l) most (both (leb 1 (length l)) (leb (length l) most) (both (leb 1 (length l) && leb (length l) most) (all is_digit l) shape).0).1
+      leb-true (length l) most (both (leb 1 (length l)) (leb (length l) most) (both (leb 1 (length l) && leb (length l) most) (list_all is_digit l) shape).0).1
 
-pub digit_at : (l : List ℕ) (i : ℕ) → all is_digit l ≡ true → i < length l → (48 ≤ get_or l i 0) × (get_or l i 0 ≤ 57)
-unfolding all
+pub digit_at : (l : List ℕ) (i : ℕ) → list_all is_digit l ≡ true → i < length l → (48 ≤ get_or l i 0) × (get_or l i 0 ≤ 57)
 digit_at [] i h l = absurd (omega arith)
 digit_at (b ∷ bs) zero h l =
-    let d = (both (is_digit b) (all is_digit bs) h).0 in
+    let d = (both (is_digit b) (list_all is_digit bs) h).0 in
     let t = both (leb 48 b) (leb b 57) d in
     (leb-true 48 b t.0, leb-true b 57 t.1)
-digit_at (b ∷ bs) (suc i) h l = digit_at bs i (both (is_digit b) (all is_digit bs) h).1 (omega arith)
+digit_at (b ∷ bs) (suc i) h l = digit_at bs i (both (is_digit b) (list_all is_digit bs) h).1 (omega arith)
 
 -- the value of the digits
 pub value_on : (s : List ℕ) (n i : ℕ) → i < length s → value_from n (drop i s) ≡ value_from (n * 10 + (get_or s i 0 - 48)) (drop (i + 1) s)
@@ -93,13 +75,13 @@ unfolding value_from
 value_ge [] n = omega arith
 value_ge (b ∷ bs) n = let r = value_ge bs (n * 10 + (b - 48)) in omega arith
 
-value_lt : (l : List ℕ) (n : ℕ) → all is_digit l ≡ true → suc (value_from n l) ≤ suc n * 10 ^ length l
-unfolding value_from all
+value_lt : (l : List ℕ) (n : ℕ) → list_all is_digit l ≡ true → suc (value_from n l) ≤ suc n * 10 ^ length l
+unfolding value_from
 value_lt [] n h = omega arith
 value_lt (b ∷ bs) n h =
     let d = digit_at (b ∷ bs) 0 h (omega arith) in
     let m = n * 10 + (b - 48) in
-    let r = value_lt bs m (both (is_digit b) (all is_digit bs) h).1 in
+    let r = value_lt bs m (both (is_digit b) (list_all is_digit bs) h).1 in
     let k : suc m ≤ suc n * 10 = omega arith in
     let e : suc n * 10 * 10 ^ length bs ≡ suc n * 10 ^ suc (length bs) =
     mul_assoc (suc n) 10 (10 ^ length bs) ∙ ap (λ (x : ℕ). suc n * x) (mul_comm 10 (10 ^ length bs) ∙ sym (pow-suc 10 (length bs))) in
@@ -111,8 +93,8 @@ value_below most l h =
     let p : 10 ^ length l ≤ 10 ^ most = pow-le-pow_right (zero-lt-suc 9) (number_short most l h) in
     omega arith
 
-pub number_wider : (l : List ℕ) → is_number 3 l ≡ true → is_number 19 l ≡ true
+pub number_wider : (most : ℕ) (l : List ℕ) → most ≤ 19 → is_number most l ≡ true → is_number 19 l ≡ true
 unfolding is_number
-number_wider l h =
-    let n = number_short 3 l h in
-    rw (le-leb (length l) 19 (omega arith)) (rw (le-leb (length l) 3 n) at h)
+number_wider most l b h =
+    let n = number_short most l h in
+    rw (le-leb (length l) 19 (omega arith)) (rw (le-leb (length l) most n) at h)

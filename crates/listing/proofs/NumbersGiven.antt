@@ -7,31 +7,33 @@ use mathlib.Core.List.{List, [], ◌∷◌, ◌++◌, map}
 use mathlib.Core.Logic.{inl, inr}
 use lib.Dec.{eqb}
 use Rattle.common.specs.Refuse.{refuse, or_else}
-use Rattle.common.specs.Lists.{any, all, memb, concat}
+use Rattle.common.specs.Lists.{all, memb, concat}
 use Rattle.common.proofs.TestParts.{on_test}
 use Rattle.footprint.specs.Ranges.{source_ranges}
 use Rattle.transcript.specs.Transcript.{Transcript}
 use Rattle.transcript.specs.claims.Numbers.{NumberGiven}
 use Rattle.transcript.proofs.NumbersGiven.{among_in}
-use Rattle.consequence.specs.declared.Called.{Called}
+use Rattle.consequence.specs.Called.{Called}
 use Rattle.consequence.specs.Window.{Window}
-use Rattle.consequence.specs.Numbers.{called_number, is_answered}
+use Rattle.std.specs.Result.{is_ok}
+use Rattle.common.specs.Refusal.{outcome_number}
 use Rattle.consequence.specs.claims.Numbers.{call_numbers}
 use Rattle.consequence.proofs.NumbersGiven.{call_given}
-use Rattle.deck.specs.declared.DeckAnswer.{DeckAnswer}
-use Rattle.deck.specs.declared.DeckAnswer.TheVariants.{Accepted, Refused}
+use Rattle.std.specs.Prelude.{Result, Ok, Err}
+use Rattle.common.specs.Refusal.{number}
+use Rattle.deck.specs.declared.DeckRefusal.{DeckRefusal}
 use Rattle.deck.specs.Deck.{read_deck, deck_transcripts}
 use Rattle.deck.specs.Numbers.{deck_number, deck_record, is_accepted}
 use Rattle.deck.specs.claims.Numbers.{deck_numbers}
 use Rattle.deck.proofs.NumbersGiven.{deck_given}
 use Rattle.lines.specs.Line.{called_line}
-use Rattle.listing.specs.declared.ParsedCall.{ParsedCall}
-use Rattle.listing.specs.declared.ParsedCall.TheVariants.{Read, Malformed}
+use Rattle.std.specs.Prelude.{Option, Some, None}
+use Rattle.consequence.specs.declared.Call.{Call}
 use Rattle.listing.specs.WindowFile.{bad_window_file, bad_call_file, window_of}
 use Rattle.listing.specs.Calls.{lines_of, fields_of, is_call, call_of, parse_call}
 use Rattle.listing.specs.Entries.{Entry, entry_line, listed_call, call_entries, entries}
 use Rattle.listing.specs.Listing.{opening_by, opening, listed, listing_by, listing}
-use Rattle.listing.specs.Numbers.{opening_number, opening_values, is_opened}
+use Rattle.listing.specs.Numbers.{opening_values}
 use Rattle.listing.specs.claims.Numbers.{ParsedGiven, opening_numbers, OpeningGiven, OpeningValued, Each, printed_numbers, Printed, ListingGiven}
 
 pub parsed_given : ParsedGiven
@@ -39,22 +41,21 @@ unfolding parse_call call_of
 parsed_given l = on_test (is_call (fields_of l)) (λ e. rw e (refl, refl)) (λ e. rw e (refl, refl))
 
 -- a deck's answer
-abbrev Judged : DeckAnswer → Type 0
+abbrev Judged : Result Unit DeckRefusal → Type 0
 Judged a = NumberGiven deck_numbers (deck_number a) (deck_number a) (is_accepted a)
 
-abbrev OpensBy : DeckAnswer → List ℕ → List ℕ → Type 0
+abbrev OpensBy : Result Unit DeckRefusal → List ℕ → List ℕ → Type 0
 OpensBy a window calls =
     NumberGiven opening_numbers (or_else (deck_number a) (refuse (bad_window_file window || bad_call_file calls) 27 0))
-    (opening_number (opening_by a window calls)) (is_opened (opening_by a window calls))
+    (deck_number (opening_by a window calls)) (is_accepted (opening_by a window calls))
 
-opening_by_lem : (a : DeckAnswer) → Judged a → (window calls : List ℕ) → OpensBy a window calls
-unfolding any all
-opening_by_lem (Refused n i) g window calls = record {
+opening_by_lem : (a : Result Unit DeckRefusal) → Judged a → (window calls : List ℕ) → OpensBy a window calls
+opening_by_lem (Err e) g window calls = record {
   refusal_is = rw g.zero_answered;
-  among = among_in deck_numbers opening_numbers refl n g.among;
+  among = among_in deck_numbers opening_numbers refl (number e.refusal) g.among;
   zero_answered = g.zero_answered;
 }
-opening_by_lem Accepted g window calls = on_test (bad_window_file window || bad_call_file calls)
+opening_by_lem (Ok x) g window calls = on_test (bad_window_file window || bad_call_file calls)
     (λ e. rw e (record { refusal_is = refl; among = refl; zero_answered = refl }))
     (λ e. rw e (record { refusal_is = refl; among = refl; zero_answered = refl }))
 
@@ -62,10 +63,10 @@ pub opening_given : OpeningGiven
 unfolding opening
 opening_given deck window calls = opening_by_lem (read_deck deck) (deck_given deck) window calls
 
-opening_valued_lem : (a : DeckAnswer) (window calls : List ℕ) →
-    opening_values (opening_by a window calls) ≡ cond (is_opened (opening_by a window calls)) [] (deck_record a ∷ [])
-opening_valued_lem (Refused n i) window calls = refl
-opening_valued_lem Accepted window calls = on_test (bad_window_file window || bad_call_file calls) (λ e. rw e) (λ e. rw e)
+opening_valued_lem : (a : Result Unit DeckRefusal) (window calls : List ℕ) →
+    opening_values (opening_by a window calls) ≡ cond (is_accepted (opening_by a window calls)) [] (deck_record a ∷ [])
+opening_valued_lem (Err e) window calls = refl
+opening_valued_lem (Ok x) window calls = on_test (bad_window_file window || bad_call_file calls) (λ e. rw e) (λ e. rw e)
 
 pub opening_valued : OpeningValued
 unfolding opening
@@ -82,24 +83,21 @@ module _ {A : Type 0} (so : A → Type 0) where
 
 -- one of some numbers that is not 0 is printed
 printed_number : (ns : List ℕ) → all (λ n. memb n (0 ∷ printed_numbers)) ns ≡ true → (n : ℕ) → memb n ns ≡ true → eqb n 0 ≡ false → memb n printed_numbers ≡ true
-unfolding any
 printed_number ns h n k z = rw z at (among_in ns (0 ∷ printed_numbers) h n k)
 
-called_printed : (number id : ℕ) {w : ℕ} (x : Called) → NumberGiven call_numbers w (called_number x) (is_answered x) → Printed (called_line number id x)
-unfolding any all
-called_printed number id (Called.Answered a) g = inl (number, id, a, refl)
-called_printed number id (Called.Refused n) g = inr (number, id, n, printed_number call_numbers refl n g.among g.zero_answered, refl)
+called_printed : (line id : ℕ) {w : ℕ} (x : Called) → NumberGiven call_numbers w (outcome_number x) (is_ok x) → Printed (called_line line id x)
+called_printed line id (Ok a) g = inl (line, id, a, refl)
+called_printed line id (Err r) g = inr (line, id, number r, printed_number call_numbers refl (number r) g.among g.zero_answered, refl)
 
 -- the line of an entry
 abbrev PrintedEntry : Entry → Type 0
 PrintedEntry e = Printed (entry_line e)
 
-call_printed : (ts : List Transcript) (w : Window) (number : ℕ) (p : ParsedCall) → Each PrintedEntry (call_entries ts w number p)
-unfolding any
-call_printed ts w number (Read q) =
+call_printed : (ts : List Transcript) (w : Window) (number : ℕ) (p : Option Call) → Each PrintedEntry (call_entries ts w number p)
+call_printed ts w number (Some q) =
     each_of PrintedEntry (λ (t : Transcript). record { number = number; id = t.model.id; answer = listed_call t w q })
     (λ t. called_printed number t.model.id (listed_call t w q) (call_given source_ranges t w q)) ts
-call_printed ts w number Malformed = (inr (number, 0, 26, refl, refl), tt)
+call_printed ts w number None = (inr (number, 0, 26, refl, refl), tt)
 
 all_printed : (ts : List Transcript) (w : Window) (number : ℕ) (ls : List (List ℕ)) → Each PrintedEntry (concat (entries ts w number ls))
 unfolding entries concat
@@ -111,10 +109,9 @@ lines_printed : (es : List Entry) → Each PrintedEntry es → Each Printed (map
 lines_printed [] h = tt
 lines_printed (e ∷ es) h = (h.0, lines_printed es h.1)
 
-printed_by : (a : DeckAnswer) → Judged a → (deck window calls : List ℕ) → Each Printed (listing_by (opening_by a window calls) (listed deck window calls))
-unfolding any all
-printed_by (Refused n i) g deck window calls = (inr (0, i, n, printed_number deck_numbers refl n g.among g.zero_answered, refl), tt)
-printed_by Accepted g deck window calls = on_test (bad_window_file window || bad_call_file calls)
+printed_by : (a : Result Unit DeckRefusal) → Judged a → (deck window calls : List ℕ) → Each Printed (listing_by (opening_by a window calls) (listed deck window calls))
+printed_by (Err e) g deck window calls = (inr (0, e.record, number e.refusal, printed_number deck_numbers refl (number e.refusal) g.among g.zero_answered, refl), tt)
+printed_by (Ok x) g deck window calls = on_test (bad_window_file window || bad_call_file calls)
     (λ e. rw e (inr (0, 0, 27, refl, refl), tt))
     (λ e. rw e (lines_printed (concat (listed deck window calls)) (all_printed (deck_transcripts deck) (window_of window) 1 (lines_of calls))))
 

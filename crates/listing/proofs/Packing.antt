@@ -6,11 +6,11 @@ use mathlib.Core.List.{List, [], ◌∷◌, ◌++◌, map, append_assoc}
 use native.Mathlib.Omega.{arith}
 use lib.ListN.{length, length-append}
 use lib.Dec.{leb}
-use borrow.Author.Tests.{le-leb, lt-leb, leb-true, leb-false}
+use borrow.Author.Tests.{lt-leb, leb-true, leb-false}
+use Rattle.std.specs.Prelude.{Option, Some, None}
 use Rattle.common.specs.Lists.{concat}
 use Rattle.common.proofs.TestParts.{on_test}
-use Rattle.listing.specs.declared.Rest.{Rest}
-use Rattle.listing.specs.declared.Rest.TheVariants.{From, Nothing}
+use Rattle.listing.specs.declared.Cursor.{Cursor}
 use Rattle.listing.specs.Pieces.{Step, Packed, behind, pack}
 
 abbrev pub text_of : Step → List ℕ
@@ -30,27 +30,23 @@ behind_both a b p = ap (λ (l : List ℕ). record { text = l; rest = p.rest }) (
 
 -- one line: it fits, or it does not
 module _ (room : ℕ) (s : Step) (ss : List Step) where
-  pub pack_fits : length s.text ≤ room → pack room (s ∷ ss) ≡ behind s.text (pack (room - length s.text) ss)
-  unfolding pack
-  pack_fits h = rw (le-leb (length s.text) room h)
-
-  pub pack_full : room < length s.text → pack room (s ∷ ss) ≡ record { text = []; rest = From s.before }
+  pub pack_full : room < length s.text → pack room (s ∷ ss) ≡ record { text = []; rest = Some s.before }
   unfolding pack
   pack_full h = rw (lt-leb (length s.text) room h)
 
-pub pack_none : (room : ℕ) → pack room [] ≡ record { text = []; rest = Nothing }
+pub pack_none : (room : ℕ) → pack room [] ≡ record { text = []; rest = None }
 unfolding pack
 pack_none room = refl
 
 -- lines behind others, which all fit or not
-abbrev pub pack_on : ℕ → Packed → Rest → List Step → Packed
-pack_on room p (From c) ys = p
-pack_on room p Nothing ys = behind p.text (pack (room - length p.text) ys)
+abbrev pub pack_on : ℕ → Packed → Option Cursor → List Step → Packed
+pack_on room p (Some c) ys = p
+pack_on room p None ys = behind p.text (pack (room - length p.text) ys)
 
-on_behind : (room : ℕ) (l : List ℕ) (p : Packed) (r : Rest) (ys : List Step) → p.rest ≡ r
+on_behind : (room : ℕ) (l : List ℕ) (p : Packed) (r : Option Cursor) (ys : List Step) → p.rest ≡ r
     → behind l (pack_on (room - length l) p r ys) ≡ pack_on room (behind l p) r ys
-on_behind room l p (From c) ys e = refl
-on_behind room l p Nothing ys e =
+on_behind room l p (Some c) ys e = refl
+on_behind room l p None ys e =
     let a = length-append l p.text in
     let n : room - length l - length p.text ≡ room - length (l ++ p.text) = omega arith in
     behind_both l p.text (pack (room - length l - length p.text) ys) ∙ ap (λ (m : ℕ). behind (l ++ p.text) (pack m ys)) n
@@ -74,16 +70,16 @@ packed_fits room (s ∷ ss) = on_test (leb (length s.text) room)
     (λ e. rw e (omega arith))
 
 -- the lines that are packed, and the first that is left out
-abbrev pub Split : ℕ → List Step → List ℕ → Rest → Type 0
-Split room ss text Nothing = text ≡ texts ss
-Split room ss text (From c) =
+abbrev pub Split : ℕ → List Step → List ℕ → Option Cursor → Type 0
+Split room ss text None = text ≡ texts ss
+Split room ss text (Some c) =
     (pre : List Step) × (s : Step) × (post : List Step)
     × (ss ≡ pre ++ (s ∷ post)) × (text ≡ texts pre) × (s.before ≡ c) × (room < length (texts pre) + length s.text)
 
-split_more : (room : ℕ) (s : Step) (ss : List Step) (text : List ℕ) (r : Rest) → Split (room - length s.text) ss text r → Split room (s ∷ ss) (s.text ++ text) r
+split_more : (room : ℕ) (s : Step) (ss : List Step) (text : List ℕ) (r : Option Cursor) → Split (room - length s.text) ss text r → Split room (s ∷ ss) (s.text ++ text) r
 unfolding concat
-split_more room s ss text Nothing h = ap (λ (l : List ℕ). s.text ++ l) h
-split_more room s ss text (From c) (pre, x, post, e, f, g, h) =
+split_more room s ss text None h = ap (λ (l : List ℕ). s.text ++ l) h
+split_more room s ss text (Some c) (pre, x, post, e, f, g, h) =
     let a = length-append s.text (texts pre) in
     (s ∷ pre, x, post, ap (λ (l : List Step). s ∷ l) e, ap (λ (l : List ℕ). s.text ++ l) f, g, omega arith)
 

@@ -1,21 +1,20 @@
 -- The pieces of a listing, joined, are its bytes.
 -- Assumes nothing.
+use Rattle.std.specs.Prelude.{Err, Ok, Result}
 use Prim.Native.Nat.{ℕ, zero, suc, ◌+◌, ◌≤◌, ◌<◌}
 use mathlib.Core.Path.{◌≡◌, refl, sym, ◌∙◌, ap, subst}
-use mathlib.Core.List.{List, [], ◌∷◌, ◌++◌, map, map-append}
+use mathlib.Core.List.{List, [], ◌∷◌, ◌++◌, map, map-append, append-nil}
 use native.Mathlib.Omega.{arith}
-use lib.ListN.{length, drop, length-append, length-drop, length-map}
+use lib.ListN.{length, take, drop, length-append, length-drop, length-map}
 use lib.Seq.{take-append_seam}
 use borrow.Author.Tests.{ne_eqb}
 use Rattle.common.specs.Lists.{concat}
 use Rattle.transcript.specs.Transcript.{Transcript}
 use Rattle.consequence.specs.Window.{Window}
 use Rattle.deck.specs.Deck.{deck_transcripts}
-use Rattle.listing.specs.declared.Opening.{Opening}
-use Rattle.listing.specs.declared.Opening.TheVariants.{Listing, Refused}
+use Rattle.deck.specs.declared.DeckRefusal.{DeckRefusal}
 use Rattle.listing.specs.declared.Cursor.{Cursor}
-use Rattle.listing.specs.declared.Rest.{Rest}
-use Rattle.listing.specs.declared.Rest.TheVariants.{From, Nothing}
+use Rattle.std.specs.Prelude.{Option, Some, None}
 use Rattle.listing.specs.Calls.{lines_of, parse_call}
 use Rattle.listing.specs.WindowFile.{window_of}
 use Rattle.listing.specs.Entries.{Entry, entry_line, call_entries, entries}
@@ -42,17 +41,17 @@ line_texts ts w number at (l ∷ ls) =
     ∙ ap (λ (x : List (List ℕ)). map entry_line es ++ x) (line_texts ts w (suc number) (at + length l) ls)
     ∙ sym (map-append entry_line es (concat (entries ts w (suc number) ls)))
 
-by_opening : (o : Opening) (deck window calls : List ℕ) → map text_of (steps_by o deck window calls start) ≡ listing_by o (listed deck window calls)
-by_opening (Refused i n) deck window calls = refl
-by_opening Listing deck window calls = line_texts (deck_transcripts deck) (window_of window) 1 0 (lines_of calls)
+by_opening : (o : Result Unit DeckRefusal) (deck window calls : List ℕ) → map text_of (steps_by o deck window calls start) ≡ listing_by o (listed deck window calls)
+by_opening (Err e) deck window calls = refl
+by_opening (Ok x) deck window calls = line_texts (deck_transcripts deck) (window_of window) 1 0 (lines_of calls)
 
 listing_steps : (deck window calls : List ℕ) → map text_of (steps deck window calls start) ≡ listing deck window calls
 unfolding steps listing
 listing_steps deck window calls = by_opening (opening deck window calls) deck window calls
 
-resumes_by : (o : Opening) (deck window calls : List ℕ) (c : Cursor) → Resumes (steps_by o deck window calls) (steps_by o deck window calls c)
-resumes_by (Refused i n) deck window calls c = (refl, tt)
-resumes_by Listing deck window calls c = steps_resume (deck_transcripts deck) (window_of window) calls c
+resumes_by : (o : Result Unit DeckRefusal) (deck window calls : List ℕ) (c : Cursor) → Resumes (steps_by o deck window calls) (steps_by o deck window calls c)
+resumes_by (Err e) deck window calls c = (refl, tt)
+resumes_by (Ok x) deck window calls c = steps_resume (deck_transcripts deck) (window_of window) calls c
 
 pub resumes : (deck window calls : List ℕ) (c : Cursor) → Resumes (steps deck window calls) (steps deck window calls c)
 unfolding steps
@@ -89,11 +88,11 @@ module _ (deck window calls : List ℕ) where
   outputs zero c buffer r l = absurd (omega arith)
   outputs (suc n) c buffer r l = here (pack (length buffer) (go c)).rest (pack (length buffer) (go c)).text (pack_split (length buffer) (go c)) (packed_fits (length buffer) (go c)) (λ d b. outputs n d b)
     where
-      here : (q : Rest) (text : List ℕ) → Split (length buffer) (go c) text q → length text ≤ length buffer
+      here : (q : Option Cursor) (text : List ℕ) → Split (length buffer) (go c) text q → length text ≤ length buffer
           → ((d : Cursor) (b : List ℕ) → 1553 ≤ length b → length (go d) < n → output n deck window calls b d ≡ texts (go d))
           → shown (piece_by (length text) q) (text ++ drop (length text) buffer) (output n deck window calls) ≡ texts (go c)
-      here Nothing text h f on = take-append_seam text (drop (length text) buffer) ∙ h
-      here (From d) text (pre, s, post, e, t, g, m) f on =
+      here None text h f on = append-nil (take (length text) (text ++ drop (length text) buffer)) ∙ take-append_seam text (drop (length text) buffer) ∙ h
+      here (Some d) text (pre, s, post, e, t, g, m) f on =
           let b = text ++ drop (length text) buffer in
           let p = piece_some c buffer r pre s post e m in
           let z = ap length t in

@@ -1,43 +1,35 @@
--- What each case of the lister's answers stands for: its refusal number, 0 for an answer, and its values.
-use Rattle.std.specs.Prelude.{ℕ, Bool, true, false, List, [], ◌∷◌}
-use Rattle.listing.specs.declared.ParsedCall.{ParsedCall}
-use Rattle.listing.specs.declared.ParsedCall.TheVariants.{Read, Malformed}
-use Rattle.listing.specs.declared.Opening.{Opening}
+-- What each case of the lister's answers stands for: its refusal number, 0 for an answer, and its values. An opening's number is
+-- deck's `deck_number`, a piece's `outcome_number`.
+use Rattle.std.specs.Prelude.{ℕ, Bool, true, false, List, [], ◌∷◌, Option, Some, None, Result, Ok, Err}
+use Rattle.common.specs.declared.refusal.Refusal.{Refusal}
+use Rattle.consequence.specs.declared.Call.{Call}
+use Rattle.deck.specs.declared.DeckRefusal.{DeckRefusal}
+use Rattle.listing.specs.declared.Cursor.{Cursor}
 use Rattle.listing.specs.declared.Piece.{Piece}
 
-abbrev pub parsed_number : ParsedCall → ℕ
-parsed_number (Read q) = 0
-parsed_number Malformed = 26
+abbrev pub parsed_number : Option Call → ℕ
+parsed_number (Some q) = 0
+parsed_number None = 26
 
-abbrev pub parsed_values : ParsedCall → List ℕ
-parsed_values (Read q) = q.chromosome ∷ q.position ∷ q.ref_base ∷ q.alt_base ∷ []
-parsed_values Malformed = []
-
-abbrev pub opening_number : Opening → ℕ
-opening_number Opening.Listing = 0
-opening_number (Opening.Refused i n) = n
+abbrev pub parsed_values : Option Call → List ℕ
+parsed_values (Some q) = q.chromosome ∷ q.position ∷ q.ref_base ∷ q.alt_base ∷ []
+parsed_values None = []
 
 -- the record named with a refusal
-abbrev pub opening_values : Opening → List ℕ
-opening_values Opening.Listing = []
-opening_values (Opening.Refused i n) = i ∷ []
+abbrev pub opening_values : Result Unit DeckRefusal → List ℕ
+opening_values (Ok x) = []
+opening_values (Err e) = e.«record» ∷ []
 
-abbrev pub is_opened : Opening → Bool
-is_opened Opening.Listing = true
-is_opened (Opening.Refused i n) = false
+-- the cursor's numbers, none behind the last lines
+abbrev pub next_values : Option Cursor → List ℕ
+next_values (Some c) = c.at ∷ c.entry ∷ []
+next_values None = []
 
-abbrev pub piece_number : Piece → ℕ
-piece_number (Piece.Lines n c) = 0
-piece_number (Piece.Last n) = 0
-piece_number (Piece.Refused n) = n
+-- how many bytes were written, and the cursor behind them
+abbrev pub piece_values : Result Piece Refusal → List ℕ
+piece_values (Ok p) = p.length ∷ next_values p.next
+piece_values (Err r) = []
 
--- how many bytes were written, and the cursor behind them, none behind the last
-abbrev pub piece_values : Piece → List ℕ
-piece_values (Piece.Lines n c) = n ∷ c.at ∷ c.entry ∷ []
-piece_values (Piece.Last n) = n ∷ []
-piece_values (Piece.Refused n) = []
-
-abbrev pub is_piece : Piece → Bool
-is_piece (Piece.Lines n c) = true
-is_piece (Piece.Last n) = true
-is_piece (Piece.Refused n) = false
+abbrev pub is_piece : Result Piece Refusal → Bool
+is_piece (Ok p) = true
+is_piece (Err r) = false

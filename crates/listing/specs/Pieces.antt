@@ -1,16 +1,15 @@
 -- The listing in pieces: as many whole lines as fit into a lent buffer, from a cursor on.
-use Rattle.std.specs.Prelude.{ℕ, suc, ◌+◌, ◌-◌, cond, List, [], ◌∷◌, ◌++◌, length, take, drop, leb, eqb}
+use Rattle.std.specs.Prelude.{ℕ, suc, ◌+◌, ◌-◌, cond, List, [], ◌∷◌, ◌++◌, length, take, drop, leb, eqb, count_by, Option, Some, None, Result, Ok, Err}
+use Rattle.common.specs.declared.refusal.Refusal.{Refusal}
+use Rattle.common.specs.declared.refusal.Refusal.TheVariants.{LineLength}
 use Rattle.transcript.specs.Transcript.{Transcript}
 use Rattle.consequence.specs.Window.{Window}
+use Rattle.common.specs.Refusal.{number}
+use Rattle.deck.specs.declared.DeckRefusal.{DeckRefusal}
 use Rattle.deck.specs.Deck.{deck_transcripts}
 use Rattle.lines.specs.Line.{newline, refusal_line}
-use Rattle.listing.specs.declared.Opening.{Opening}
-use Rattle.listing.specs.declared.Opening.TheVariants.{Listing, Refused as NotListed}
 use Rattle.listing.specs.declared.Cursor.{Cursor}
-use Rattle.listing.specs.declared.Rest.{Rest}
-use Rattle.listing.specs.declared.Rest.TheVariants.{From, Nothing}
 use Rattle.listing.specs.declared.Piece.{Piece}
-use Rattle.listing.specs.declared.Piece.TheVariants.{Lines, Last, Refused}
 use Rattle.listing.specs.Calls.{lines_of, parse_call}
 use Rattle.listing.specs.WindowFile.{window_of}
 use Rattle.listing.specs.Entries.{Entry, entry_line, call_entries}
@@ -33,8 +32,7 @@ steps_from ts w number at k (l ∷ ls) =
     call_steps at k (drop k (call_entries ts w number (parse_call l))) ++ steps_from ts w (suc number) (at + length l) 0 ls
 
 abbrev pub newlines : List ℕ → ℕ
-newlines [] = 0
-newlines (b ∷ bs) = cond (eqb b newline) 1 0 + newlines bs
+newlines bs = count_by (λ b. eqb b newline) bs
 
 -- the number of the line that begins at a byte of the calls
 abbrev pub line_number : List ℕ → ℕ → ℕ
@@ -43,9 +41,9 @@ line_number calls at = suc (newlines (take at calls))
 abbrev pub steps_at : List Transcript → Window → List ℕ → Cursor → List Step
 steps_at ts w calls c = steps_from ts w (line_number calls c.at) c.at c.entry (lines_of (drop c.at calls))
 
-abbrev pub steps_by : Opening → List ℕ → List ℕ → List ℕ → Cursor → List Step
-steps_by (NotListed i number) deck window calls c = record { before = c; text = refusal_line 0 i number } ∷ []
-steps_by Listing deck window calls c = steps_at (deck_transcripts deck) (window_of window) calls c
+abbrev pub steps_by : Result Unit DeckRefusal → List ℕ → List ℕ → List ℕ → Cursor → List Step
+steps_by (Err e) deck window calls c = record { before = c; text = refusal_line 0 e.«record» (number e.refusal) } ∷ []
+steps_by (Ok x) deck window calls c = steps_at (deck_transcripts deck) (window_of window) calls c
 
 -- the lines of the listing from a cursor on; where deck, window or calls are refused, the line of the refusal
 unfoldable pub steps : List ℕ → List ℕ → List ℕ → Cursor → List Step
@@ -55,29 +53,29 @@ steps deck window calls c = steps_by (opening deck window calls) deck window cal
 abbrev pub start : Cursor
 start = record { at = 0; entry = 0 }
 
--- lines one behind the other, and what is left
+-- lines one behind the other, and where those that are left begin
 pub record Packed : Type 0 where
   pub text : List ℕ
-  pub rest : Rest
+  pub rest : Option Cursor
 
 abbrev pub behind : List ℕ → Packed → Packed
 behind l p = record { text = l ++ p.text; rest = p.rest }
 
 -- as many as fit into the room
 unfoldable pub pack : ℕ → List Step → Packed
-pack room [] = record { text = []; rest = Nothing }
+pack room [] = record { text = []; rest = None }
 pack room (s ∷ ss) =
-    cond (leb (length s.text) room) (behind s.text (pack (room - length s.text) ss)) (record { text = []; rest = From s.before })
+    cond (leb (length s.text) room) (behind s.text (pack (room - length s.text) ss)) (record { text = []; rest = Some s.before })
 
 abbrev pub packed : List ℕ → List ℕ → List ℕ → Cursor → List ℕ → Packed
 packed deck window calls c buffer = pack (length buffer) (steps deck window calls c)
 
--- 28: not even the first line fits
-abbrev pub piece_by : ℕ → Rest → Piece
-piece_by n (From c) = cond (eqb n 0) (Refused 28) (Lines n c)
-piece_by n Nothing = Last n
+-- refused where not even the first line fits
+abbrev pub piece_by : ℕ → Option Cursor → Result Piece Refusal
+piece_by n (Some c) = cond (eqb n 0) (Err LineLength) (Ok (record { length = n; next = Some c }))
+piece_by n None = Ok (record { length = n; next = None })
 
-abbrev pub piece_of : Packed → Piece
+abbrev pub piece_of : Packed → Result Piece Refusal
 piece_of p = piece_by (length p.text) p.rest
 
 -- the lent bytes afterwards: the lines, and what stood behind them

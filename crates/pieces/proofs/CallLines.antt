@@ -11,9 +11,10 @@ use borrow.Rule.Slice.PartMut.{mid_of, put_mid}
 use Rattle.common.specs.Little.{at2, at8}
 use Rattle.transcript.specs.Transcript.{Transcript}
 use Rattle.consequence.specs.Window.{Window}
-use Rattle.listing.specs.declared.Rest.TheVariants.{From, Nothing}
+use Rattle.std.specs.Prelude.{Option, Some, None}
 use Rattle.listing.specs.declared.Cursor.{Cursor}
-use Rattle.listing.specs.declared.ParsedCall.{ParsedCall}
+use Rattle.consequence.specs.declared.Call.{Call}
+use Rattle.listing.specs.declared.Piece.{Piece}
 use Rattle.listing.specs.Calls.{lines_of, parse_call}
 use Rattle.listing.specs.WindowFile.{window_of}
 use Rattle.listing.specs.Entries.{call_entries}
@@ -21,7 +22,6 @@ use Rattle.listing.specs.Pieces.{Step, call_steps, steps_from, line_number, step
 use Rattle.listing.specs.code.Lengths.{line_length}
 use Rattle.listing.proofs.Lines.{lines_step, line_inside}
 use Rattle.listing.proofs.Newlines.{newlines_few}
-use Rattle.pieces.specs.declared.fill.Filled.{Filled}
 use Rattle.pieces.specs.code.Filling.{filled_as}
 use Rattle.pieces.proofs.Filling.{Filling, filling_more, filling_stop}
 
@@ -35,7 +35,7 @@ pub few_lines : (calls : List ℕ) (at : ℕ) → line_number calls at + (length
 few_lines calls at = let a = newlines_few (take at calls) in let b = length-take at calls in omega arith
 
 -- what was put, of the same lines said otherwise
-pub put_as : (buffer : List ℕ) {xs ys : List Step} {r : Filled} {after : List ℕ} → xs ≡ ys
+pub put_as : (buffer : List ℕ) {xs ys : List Step} {r : Piece} {after : List ℕ} → xs ≡ ys
     → (r ≡ filled_as (pack (length buffer) xs)) × (after ≡ piece_to buffer (pack (length buffer) xs))
     → (r ≡ filled_as (pack (length buffer) ys)) × (after ≡ piece_to buffer (pack (length buffer) ys))
 put_as buffer e h = (h.0 ∙ ap (λ (ss : List Step). filled_as (pack (length buffer) ss)) e, h.1 ∙ ap (λ (ss : List Step). piece_to buffer (pack (length buffer) ss)) e)
@@ -56,7 +56,7 @@ module _ (ts : List Transcript) (w : Window) (calls : List ℕ) where
     abbrev line : List ℕ
     line = take (to - at) (drop at calls)
 
-    abbrev here : ParsedCall → List Step
+    abbrev here : Option Call → List Step
     here p = call_steps at k (drop k (call_entries ts w number p))
 
     lines_on : lines_from number at k ≡ here (parse_call line) ++ lines_from (number + 1) to 0
@@ -73,7 +73,7 @@ module _ (ts : List Transcript) (w : Window) (calls : List ℕ) where
         ∙ rw (q, add-one)
 
     -- the lines of one of them, put behind the others
-    module _ {before after : List ℕ} {filled : ℕ} {whole : Packed} (f : Filling before after filled (lines_from number at k) whole) {parsed : ParsedCall} {r : Filled} {last : List ℕ}
+    module _ {before after : List ℕ} {filled : ℕ} {whole : Packed} (f : Filling before after filled (lines_from number at k) whole) {parsed : Option Call} {r : Piece} {last : List ℕ}
         (u : parsed ≡ parse_call line) (v : r ≡ filled_as (pack (length (mid_of filled (length after - filled) after)) (here parsed)))
         (z : last ≡ piece_to (mid_of filled (length after - filled) after) (pack (length (mid_of filled (length after - filled) after)) (here parsed))) where
       abbrev mid : List ℕ
@@ -83,18 +83,18 @@ module _ (ts : List Transcript) (w : Window) (calls : List ℕ) where
       p = pack (length mid) (here parsed)
 
       on : Filling before after filled (here parsed ++ lines_from (number + 1) to 0) whole
-      on = subst (λ (ss : List Step). Filling before after filled ss whole) (lines_on ∙ ap (λ (c : ParsedCall). here c ++ lines_from (number + 1) to 0) (sym u)) f
+      on = subst (λ (ss : List Step). Filling before after filled ss whole) (lines_on ∙ ap (λ (c : Option Call). here c ++ lines_from (number + 1) to 0) (sym u)) f
 
-      pub line_whole : r.rest ≡ Nothing → Filling before (put_mid filled (length after - filled) after last) (filled + r.length) (lines_from (number + 1) to 0) whole
+      pub line_whole : r.next ≡ None → Filling before (put_mid filled (length after - filled) after last) (filled + r.length) (lines_from (number + 1) to 0) whole
       line_whole h =
-          let n = ap (λ (x : Filled). x.length) v in
-          let c = sym (ap (λ (x : Filled). x.rest) v) ∙ h in
+          let n = ap (λ (x : Piece). x.length) v in
+          let c = sym (ap (λ (x : Piece). x.next) v) ∙ h in
           rw n (filling_more (here parsed) (lines_from (number + 1) to 0) on z c)
 
-      pub line_part : {c : Cursor} → r.rest ≡ From c
-          → (◌≡◌ {A = Filled} (record { length = filled + r.length; rest = r.rest }) (filled_as whole)) × (put_mid filled (length after - filled) after last ≡ piece_to before whole)
+      pub line_part : {c : Cursor} → r.next ≡ Some c
+          → (◌≡◌ {A = Piece} (record { length = filled + r.length; next = Some c }) (filled_as whole)) × (put_mid filled (length after - filled) after last ≡ piece_to before whole)
       line_part {c} h =
-          let n = ap (λ (x : Filled). x.length) v in
-          let d = sym (ap (λ (x : Filled). x.rest) v) ∙ h in
+          let n = ap (λ (x : Piece). x.length) v in
+          let d = sym (ap (λ (x : Piece). x.next) v) ∙ h in
           let s = filling_stop (here parsed) (lines_from (number + 1) to 0) on z d in
-          (rw (n, h) s.0, s.1)
+          (rw n s.0, s.1)

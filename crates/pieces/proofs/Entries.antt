@@ -10,22 +10,24 @@ use lib.ListN.{length, get_or, drop, length-map, drop_of_length-le}
 use borrow.Rule.Slice.PartMut.{mid_of, put_mid}
 use Rattle.transcript.specs.Transcript.{Transcript}
 use Rattle.consequence.specs.declared.Call.{Call}
-use Rattle.consequence.specs.declared.Called.{Called}
+use Rattle.consequence.specs.Called.{Called}
 use Rattle.consequence.specs.Window.{Window}
 use Rattle.consequence.specs.code.Prepared.{Summed}
 use Rattle.deck.specs.declared.rows.Rows.{Rows}
-use Rattle.deck.specs.code.Table.{DeckTable, InOrder, model_in, transcript_in, transcript_at, transcript_rows, table_transcripts}
-use Rattle.lines.specs.declared.Written.{Written}
+use Rattle.deck.specs.declared.Table.{Table}
+use Rattle.deck.specs.code.Table.{InOrder, model_in, transcript_in, transcript_at, transcript_rows, table_transcripts}
+use Rattle.std.specs.Prelude.{Some, Result, Ok, Err}
+use Rattle.common.specs.declared.refusal.Refusal.{Refusal}
 use Rattle.lines.specs.Line.{called_line, write_answer, written_to}
 use Rattle.listing.specs.declared.Cursor.{Cursor}
-use Rattle.listing.specs.declared.Rest.TheVariants.{From}
-use Rattle.listing.specs.declared.ParsedCall.TheVariants.{Read}
+use Rattle.listing.specs.declared.Piece.{Piece}
 use Rattle.listing.specs.Entries.{Entry, entry_line, listed_call, call_entry, call_entries}
 use Rattle.listing.specs.Pieces.{Step, call_steps, Packed, pack, piece_to}
-use Rattle.pieces.specs.declared.fill.Filled.{Filled}
-use Rattle.pieces.specs.code.TableIndex.{TableIndex, AllAdmitted, table_index, cds_row}
+use Rattle.pieces.specs.declared.TableIndex.{TableIndex}
+use Rattle.pieces.specs.code.TableIndex.{AllAdmitted, table_index, cds_row}
 use Rattle.pieces.specs.code.Filling.{filled_as}
-use Rattle.pieces.proofs.IndexTable.{rows_in, IndexedAt}
+use Rattle.pieces.specs.code.TableIndex.{rows_in}
+use Rattle.pieces.proofs.IndexTable.{IndexedAt}
 use Rattle.pieces.proofs.WholeIndex.{table_indexed}
 use Rattle.pieces.proofs.IndexedRows.{index_count, index_few, index_rows_lem}
 use Rattle.pieces.proofs.Filling.{Filling, line_put, line_left, filling_more, filling_stop}
@@ -36,7 +38,7 @@ mapped_on f g [] i h = absurd (omega arith)
 mapped_on f g (k ∷ ks) zero h = refl
 mapped_on f g (k ∷ ks) (suc i) h = mapped_on f g ks i (omega arith)
 
-module _ (t : DeckTable) (x : TableIndex) (e : x ≡ table_index t) where
+module _ (t : Table) (x : TableIndex) (e : x ≡ table_index t) where
   pub count_low : x.count ≤ 4096
   count_low = let a = ap (λ (y : TableIndex). y.count) e in let b = index_few t in omega arith
 
@@ -52,17 +54,17 @@ module _ (t : DeckTable) (x : TableIndex) (e : x ≡ table_index t) where
     row_below = let o = at.order in let b = o.0 in let c = o.1 in let d = o.2 in let f = o.3 in let g = o.4 in omega arith
 
     module _ {r : Rows} (q : r ≡ rows_in x i) where
-      pub ready : InOrder k r × Summed (transcript_in t.marks t.ids t.numbers t.starts t.ends k r) (drop k x.sums) (drop (cds_row k r) x.sums) (get_or x.short i false)
+      pub ready : InOrder k r × Summed (transcript_in t k r) (drop k x.sums) (drop (cds_row k r) x.sums) (get_or x.short i false)
       ready = rw q (at.order, at.summed)
 
-      pub entry_line_lem : (w : Window) (number : ℕ) (c : Call) {called : Called} → called ≡ listed_call (transcript_in t.marks t.ids t.numbers t.starts t.ends k r) w c
+      pub entry_line_lem : (w : Window) (number : ℕ) (c : Call) {called : Called} → called ≡ listed_call (transcript_in t k r) w c
           → called_line number (get_or t.ids k 0) called ≡ entry_line (call_entry w number c (transcript_at t k))
       unfolding transcript_in model_in
       entry_line_lem w number c h = rw (h, q ∙ at.rows_are)
 
   module _ (w : Window) (number : ℕ) (q : Call) (at : ℕ) where
     abbrev es : List Entry
-    es = call_entries (table_transcripts t) w number (Read q)
+    es = call_entries (table_transcripts t) w number (Some q)
 
     abbrev line : ℕ → List ℕ
     line i = entry_line (call_entry w number q (transcript_at t (get_or x.rows i 0)))
@@ -87,7 +89,7 @@ module _ (t : DeckTable) (x : TableIndex) (e : x ≡ table_index t) where
 
     -- the line of one transcript that is put behind the others, or is left
     module _ {before after : List ℕ} {filled : ℕ} {whole : Packed} (i : ℕ) (l : i < x.count) (f : Filling before after filled (call_steps at i (drop i es)) whole)
-        {v : Written} {last : List ℕ} (u : v ≡ write_answer (mid_of filled (length after - filled) after) (line i)) (z : last ≡ written_to (mid_of filled (length after - filled) after) (line i)) where
+        {v : Result ℕ Refusal} {last : List ℕ} (u : v ≡ write_answer (mid_of filled (length after - filled) after) (line i)) (z : last ≡ written_to (mid_of filled (length after - filled) after) (line i)) where
       abbrev mid : List ℕ
       mid = mid_of filled (length after - filled) after
 
@@ -97,16 +99,16 @@ module _ (t : DeckTable) (x : TableIndex) (e : x ≡ table_index t) where
       on : Filling before after filled (one ++ call_steps at (i + 1) (drop (i + 1) es)) whole
       on = subst (λ (ss : List Step). Filling before after filled ss whole) (steps_on i l) f
 
-      pub entry_put : {n : ℕ} → v ≡ Written.Bytes n → Filling before (put_mid filled (length after - filled) after last) (filled + n) (call_steps at (i + 1) (drop (i + 1) es)) whole
+      pub entry_put : {n : ℕ} → v ≡ Ok n → Filling before (put_mid filled (length after - filled) after last) (filled + n) (call_steps at (i + 1) (drop (i + 1) es)) whole
       entry_put h =
           let p = line_put mid (line i) (cursor i) u z h in
           rw p.0 (filling_more one (call_steps at (i + 1) (drop (i + 1) es)) on p.2 p.1)
 
-      pub entry_left : {n : ℕ} → v ≡ Written.Refused n
-          → (◌≡◌ {A = Filled} (record { length = filled; rest = From (cursor i) }) (filled_as whole)) × (put_mid filled (length after - filled) after last ≡ piece_to before whole)
+      pub entry_left : {n : Refusal} → v ≡ Err n
+          → (◌≡◌ {A = Piece} (record { length = filled; next = Some (cursor i) }) (filled_as whole)) × (put_mid filled (length after - filled) after last ≡ piece_to before whole)
       entry_left h =
           let p = line_left mid (line i) (cursor i) u z h in
           let s = filling_stop one (call_steps at (i + 1) (drop (i + 1) es)) on p.2 p.1 in
           let y = p.0 in
           let m : filled ≡ filled + length (pack (length mid) one).text = omega arith in
-          (ap (λ (k : ℕ). record { length = k; rest = From (cursor i) }) m ∙ s.0, s.1)
+          (ap (λ (k : ℕ). record { length = k; next = Some (cursor i) }) m ∙ s.0, s.1)

@@ -8,15 +8,14 @@ use lib.ListN.{length, take, drop, length-append, length-drop}
 use lib.Seq.{drop-nil, take_all, take-append_seam, drop-append_seam, drop-drop, drop-length}
 use borrow.Rule.Slice.PartMut.{mid_of, post_of, put_mid}
 use Rattle.common.proofs.TestParts.{on_test}
-use Rattle.lines.specs.declared.Written.{Written}
+use Rattle.std.specs.Prelude.{Option, Some, None, Result, Ok, Err}
+use Rattle.common.specs.declared.refusal.Refusal.{Refusal}
 use Rattle.lines.specs.Line.{refusal_line, fits, write_answer, written_to}
 use Rattle.listing.specs.declared.Cursor.{Cursor}
-use Rattle.listing.specs.declared.Rest.{Rest}
-use Rattle.listing.specs.declared.Rest.TheVariants.{From, Nothing}
+use Rattle.listing.specs.declared.Piece.{Piece}
 use Rattle.listing.specs.Entries.{Entry, malformed}
 use Rattle.listing.specs.Pieces.{Step, call_steps, Packed, behind, pack, piece_to}
 use Rattle.listing.proofs.Packing.{pack_none, behind_both, pack_on, pack_both, packed_fits}
-use Rattle.pieces.specs.declared.fill.Filled.{Filled}
 use Rattle.pieces.specs.code.Filling.{filled_as, line_filled}
 
 -- one line that is put, or is left
@@ -33,21 +32,21 @@ module _ (buffer l : List ℕ) (c : Cursor) where
       (λ e. rw (e, append-nil l) (refl, refl))
       (λ e. rw e (refl, refl))
 
-  pub line_both : {v : Written} {r : Filled} {after : List ℕ} → v ≡ write_answer buffer l → after ≡ written_to buffer l → r ≡ line_filled v c
+  pub line_both : {v : Result ℕ Refusal} {r : Piece} {after : List ℕ} → v ≡ write_answer buffer l → after ≡ written_to buffer l → r ≡ line_filled v c
       → (r ≡ filled_as one) × (after ≡ piece_to buffer one)
-  line_both e a h = (h ∙ ap (λ (w : Written). line_filled w c) e ∙ line_filled_lem.0, a ∙ line_filled_lem.1)
+  line_both e a h = (h ∙ ap (λ (w : Result ℕ Refusal). line_filled w c) e ∙ line_filled_lem.0, a ∙ line_filled_lem.1)
 
-  pub line_put : {v : Written} {after : List ℕ} {n : ℕ} → v ≡ write_answer buffer l → after ≡ written_to buffer l → v ≡ Written.Bytes n
-      → (n ≡ length one.text) × (one.rest ≡ Nothing) × (after ≡ piece_to buffer one)
+  pub line_put : {v : Result ℕ Refusal} {after : List ℕ} {n : ℕ} → v ≡ write_answer buffer l → after ≡ written_to buffer l → v ≡ Ok n
+      → (n ≡ length one.text) × (one.rest ≡ None) × (after ≡ piece_to buffer one)
   line_put e a h =
-      let z = ap (λ (w : Written). line_filled w c) (sym h ∙ e) ∙ line_filled_lem.0 in
-      (ap (λ (f : Filled). f.length) z, sym (ap (λ (f : Filled). f.rest) z), a ∙ line_filled_lem.1)
+      let z = ap (λ (w : Result ℕ Refusal). line_filled w c) (sym h ∙ e) ∙ line_filled_lem.0 in
+      (ap (λ (f : Piece). f.length) z, sym (ap (λ (f : Piece). f.next) z), a ∙ line_filled_lem.1)
 
-  pub line_left : {v : Written} {after : List ℕ} {n : ℕ} → v ≡ write_answer buffer l → after ≡ written_to buffer l → v ≡ Written.Refused n
-      → (0 ≡ length one.text) × (one.rest ≡ From c) × (after ≡ piece_to buffer one)
+  pub line_left : {v : Result ℕ Refusal} {after : List ℕ} {n : Refusal} → v ≡ write_answer buffer l → after ≡ written_to buffer l → v ≡ Err n
+      → (0 ≡ length one.text) × (one.rest ≡ Some c) × (after ≡ piece_to buffer one)
   line_left e a h =
-      let z = ap (λ (w : Written). line_filled w c) (sym h ∙ e) ∙ line_filled_lem.0 in
-      (ap (λ (f : Filled). f.length) z, sym (ap (λ (f : Filled). f.rest) z), a ∙ line_filled_lem.1)
+      let z = ap (λ (w : Result ℕ Refusal). line_filled w c) (sym h ∙ e) ∙ line_filled_lem.0 in
+      (ap (λ (f : Piece). f.length) z, sym (ap (λ (f : Piece). f.next) z), a ∙ line_filled_lem.1)
 
 -- the line of a malformed line of the calls, at the cursor or behind it
 pub malformed_here : (number at k : ℕ) → k ≡ 0
@@ -59,8 +58,8 @@ pub malformed_behind : (number at k : ℕ) → (k ≡ 0 → ⊥) → call_steps 
 malformed_behind number at zero h = absurd (h refl)
 malformed_behind number at (suc k) h = rw (drop-nil {A = Entry} k)
 
-pub filled_fits : (room : ℕ) (ss : List Step) {r : Filled} → r ≡ filled_as (pack room ss) → r.length ≤ room
-filled_fits room ss e = let a = ap (λ (f : Filled). f.length) e in let b = packed_fits room ss in omega arith
+pub filled_fits : (room : ℕ) (ss : List Step) {r : Piece} → r ≡ filled_as (pack room ss) → r.length ≤ room
+filled_fits room ss e = let a = ap (λ (f : Piece). f.length) e in let b = packed_fits room ss in omega arith
 
 -- what is put so far, and that with the lines left it gives the whole
 pub record Filling (before after : List ℕ) (filled : ℕ) (left : List Step) (whole : Packed) : Type 0 where
@@ -107,10 +106,10 @@ module _ {before after : List ℕ} {filled : ℕ} {left : List Step} {whole : Pa
       let t : take filled after ≡ f.done = rw (f.at, f.put) (take-append_seam f.done (drop (length f.done) before)) in
       rw (p, t, append-nil ys)
 
-  pub filling_end : left ≡ [] → (◌≡◌ {A = Filled} (record { length = filled; rest = Nothing }) (filled_as whole)) × (after ≡ piece_to before whole)
+  pub filling_end : left ≡ [] → (◌≡◌ {A = Piece} (record { length = filled; next = None }) (filled_as whole)) × (after ≡ piece_to before whole)
   filling_end e =
-      let w : record { text = f.done; rest = Nothing } ≡ whole = sym (rw (e, pack_none, append-nil f.done)) ∙ f.on in
-      rw (← w) (ap (λ (n : ℕ). record { length = n; rest = Nothing }) f.at, f.put)
+      let w : record { text = f.done; rest = None } ≡ whole = sym (rw (e, pack_none, append-nil f.done)) ∙ f.on in
+      rw (← w) (ap (λ (n : ℕ). record { length = n; next = None }) f.at, f.put)
 
 -- lines that are put behind the others: all of them, or not
 module _ {before after : List ℕ} {filled : ℕ} (xs ys : List Step) {whole : Packed} (f : Filling before after filled (xs ++ ys) whole) {last : List ℕ}
@@ -136,7 +135,7 @@ module _ {before after : List ℕ} {filled : ℕ} (xs ys : List Step) {whole : P
   on : behind f.done (pack_on (length (mid f)) p p.rest ys) ≡ whole
   on = ap (behind f.done) (sym (pack_both (length (mid f)) xs ys)) ∙ ap (λ (n : ℕ). behind f.done (pack n (xs ++ ys))) (mid_length f) ∙ f.on
 
-  pub filling_more : p.rest ≡ Nothing → Filling before now (filled + length p.text) ys whole
+  pub filling_more : p.rest ≡ None → Filling before now (filled + length p.text) ys whole
   filling_more h =
       let n = length-append f.done p.text in
       let m = mid_length f in
@@ -148,10 +147,10 @@ module _ {before after : List ℕ} {filled : ℕ} (xs ys : List Step) {whole : P
         put = put;
         at = at;
         within = omega arith;
-        on = sym (behind_both f.done p.text (pack (length (mid f) - length p.text) ys) ∙ ap (λ (i : ℕ). behind done (pack i ys)) k) ∙ ap (λ (r : Rest). behind f.done (pack_on (length (mid f)) p r ys)) (sym h) ∙ on;
+        on = sym (behind_both f.done p.text (pack (length (mid f) - length p.text) ys) ∙ ap (λ (i : ℕ). behind done (pack i ys)) k) ∙ ap (λ (r : Option Cursor). behind f.done (pack_on (length (mid f)) p r ys)) (sym h) ∙ on;
       }
 
-  pub filling_stop : {c : Cursor} → p.rest ≡ From c → (◌≡◌ {A = Filled} (record { length = filled + length p.text; rest = From c }) (filled_as whole)) × (now ≡ piece_to before whole)
+  pub filling_stop : {c : Cursor} → p.rest ≡ Some c → (◌≡◌ {A = Piece} (record { length = filled + length p.text; next = Some c }) (filled_as whole)) × (now ≡ piece_to before whole)
   filling_stop {c} h =
-      let w : record { text = done; rest = From c } ≡ whole = ap (λ (r : Rest). record { text = done; rest = r }) (sym h) ∙ ap (λ (r : Rest). behind f.done (pack_on (length (mid f)) p r ys)) (sym h) ∙ on in
-      rw (← w) (ap (λ (n : ℕ). record { length = n; rest = From c }) at, put)
+      let w : record { text = done; rest = Some c } ≡ whole = ap (λ (r : Option Cursor). record { text = done; rest = r }) (sym h) ∙ ap (λ (r : Option Cursor). behind f.done (pack_on (length (mid f)) p r ys)) (sym h) ∙ on in
+      rw (← w) (ap (λ (n : ℕ). record { length = n; next = Some c }) at, put)

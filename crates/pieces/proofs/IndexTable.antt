@@ -15,25 +15,23 @@ use Rattle.transcript.specs.Orient.{oriented}
 use Rattle.transcript.specs.Admission.{admission}
 use Rattle.consequence.specs.code.Prepared.{Summed}
 use Rattle.deck.specs.declared.rows.Rows.{Rows}
-use Rattle.deck.specs.code.Table.{DeckTable, rows_at, InOrder, transcript_in, transcript_at}
-use Rattle.pieces.specs.code.TableIndex.{TableIndex, is_short, row_sums, index_row, cds_row}
+use Rattle.deck.specs.declared.Table.{Table}
+use Rattle.deck.specs.code.Table.{rows_at, InOrder, transcript_in, transcript_at}
+use Rattle.pieces.specs.declared.TableIndex.{TableIndex}
+use Rattle.pieces.specs.code.TableIndex.{is_short, row_sums, index_row, rows_in, cds_row}
 use Rattle.pieces.proofs.IndexSums.{KeptBelow, kept_row, sums_kept, first_kept}
 use Rattle.pieces.proofs.SummedRows.{summed_here}
 use Rattle.pieces.proofs.IndexRows.{exons_end, segments_end, cds_row_is, cds_end_lem}
 use Rattle.deck.proofs.RowOrder.{rows_in_order}
 
--- the columns at transcript k
-abbrev pub rows_in : TableIndex → ℕ → Rows
-rows_in x k = record { exons = get_or x.exons k 0; bounds = get_or x.bounds k 0; segments = get_or x.segments k 0; bases = get_or x.bases k 0 }
-
 -- an admitted transcript at row k, with these rows, this mark for a short intron and these sums
-pub record IndexedAt (t : DeckTable) (k : ℕ) (r : Rows) (short : Bool) (sums : List ℕ) : Type 0 where
+pub record IndexedAt (t : Table) (k : ℕ) (r : Rows) (short : Bool) (sums : List ℕ) : Type 0 where
   pub rows_are : r ≡ rows_at t.kinds k
   pub order : InOrder k r
-  pub summed : Summed (transcript_in t.marks t.ids t.numbers t.starts t.ends k r) (drop k sums) (drop (cds_row k r) sums) short
+  pub summed : Summed (transcript_in t k r) (drop k sums) (drop (cds_row k r) sums) short
 
 -- columns of the table's length; each of the first j transcripts is indexed, and ends before the row to come
-pub record Indexing (t : DeckTable) (x : TableIndex) (j row : ℕ) : Type 0 where
+pub record Indexing (t : Table) (x : TableIndex) (j row : ℕ) : Type 0 where
   pub rows : length x.rows ≡ 4096
   pub shorts : length x.short ≡ 4096
   pub exons : length x.exons ≡ 4096
@@ -45,14 +43,14 @@ pub record Indexing (t : DeckTable) (x : TableIndex) (j row : ℕ) : Type 0 wher
   pub at : (i : ℕ) → i < j → IndexedAt t (get_or x.rows i 0) (rows_in x i) (get_or x.short i false) x.sums
 
 -- sums that are stored from the row to come on change nothing at an earlier one
-indexed_kept : (t : DeckTable) (k row : ℕ) (r : Rows) {s : Bool} (sums after : List ℕ) → r.bases ≤ row → KeptBelow row sums after → IndexedAt t k r s sums → IndexedAt t k r s after
+indexed_kept : (t : Table) (k row : ℕ) (r : Rows) {s : Bool} (sums after : List ℕ) → r.bases ≤ row → KeptBelow row sums after → IndexedAt t k r s sums → IndexedAt t k r s after
 indexed_kept t k row r sums after b q x =
     let z = x.summed in
     let i = x.order in
     let e = i.1 in let f = i.2 in let g = i.3 in
-    let l = exons_end t.marks t.ids t.numbers t.starts t.ends k r z.admitted i in
-    let c = cds_end_lem t.marks t.ids t.numbers t.starts t.ends k r z.admitted i in
-    let o = oriented (transcript_in t.marks t.ids t.numbers t.starts t.ends k r) in
+    let l = exons_end t k r z.admitted i in
+    let c = cds_end_lem t k r z.admitted i in
+    let o = oriented (transcript_in t k r) in
     record {
       rows_are = x.rows_are;
       order = i;
@@ -65,7 +63,7 @@ indexed_kept t k row r sums after b q x =
     }
 
 -- one transcript more
-module _ (t : DeckTable) (x : TableIndex) (j row : ℕ) (w : Indexing t x j row) (l : row < 4096) (m : j < 4096) (h : admission (transcript_at t row) ≡ 0) where
+module _ (t : Table) (x : TableIndex) (j row : ℕ) (w : Indexing t x j row) (l : row < 4096) (m : j < 4096) (h : admission (transcript_at t row) ≡ 0) where
   abbrev r : Rows
   r = rows_at t.kinds row
 
@@ -83,11 +81,11 @@ module _ (t : DeckTable) (x : TableIndex) (j row : ℕ) (w : Indexing t x j row)
 
   summed : Summed u (drop row after) (drop (cds_row row r) after) (is_short u)
   summed =
-      let a = exons_end t.marks t.ids t.numbers t.starts t.ends row r h order in
+      let a = exons_end t row r h order in
       let n = w.sums in
       let b = order.1 in let c = order.2 in let d = order.3 in let f = order.4 in
-      rw (← cds_row_is t.marks t.ids t.numbers t.starts t.ends row r h)
-      (summed_here u h row r.exons x.sums a (omega arith) (λ g. (let s = segments_end t.marks t.ids t.numbers t.starts t.ends row r h order g in omega arith)))
+      rw (← cds_row_is t row r h)
+      (summed_here u h row r.exons x.sums a (omega arith) (λ g. (let s = segments_end t row r h order g in omega arith)))
 
   here : {A : Type 0} (c : List A) (v n : A) → length c ≡ 4096 → get_or (set c j v) j n ≡ v
   here c v n e = get_or-set_same c j v n (omega arith)

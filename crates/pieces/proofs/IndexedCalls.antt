@@ -2,14 +2,10 @@
 -- Assumes nothing.
 use mathlib.Core.Path.{◌≡◌}
 use Prim.Native.Nat.{ℕ, ◌≤◌, ◌<◌}
-use mathlib.Core.Bool.{Bool}
-use mathlib.Core.List.{List}
 use native.Mathlib.Omega.{arith}
 use lib.Dec.{eqb}
 use borrow.Author.Tests.{eqb-false}
 use Rattle.common.proofs.TestParts.{on_test}
-use Rattle.transcript.specs.Transcript.{Transcript}
-use Rattle.consequence.specs.code.Prepared.{Summed}
 use Rattle.deck.specs.declared.rows.Rows.{Rows}
 use Rattle.deck.specs.code.Table.{InOrder}
 use Rattle.pieces.specs.code.TableIndex.{cds_row}
@@ -22,7 +18,3 @@ row_low k r h =
   where
     inside : (b x : ℕ) → x ≤ b → b ≤ 4096 → (b ≡ x → ⊥) → x < 4096
     inside b x l m n = omega arith
-
--- a transcript lent part by part, with its sums
-pub summed_as : {t u : Transcript} {a b c d : List ℕ} {s : Bool} → t ≡ u → a ≡ b → c ≡ d → Summed u b d s → Summed t a c s
-summed_as e f g h = rw (e, f, g) h

@@ -7,8 +7,10 @@ use mathlib.Core.List.{List, [], ◌∷◌}
 use native.Mathlib.Omega.{arith}
 use lib.ListN.{length, get_or, length-set, length-replicate}
 use lib.Seq.{get_or-set_same, get_or-set_other}
-use Rattle.deck.specs.code.Table.{DeckTable, is_kind, rows_at, rows_from, transcript_rows}
-use Rattle.pieces.specs.code.TableIndex.{TableIndex, index_row, index_rows, empty_index, table_index}
+use Rattle.deck.specs.declared.Table.{Table}
+use Rattle.deck.specs.code.Table.{is_kind, rows_at, rows_from, transcript_rows}
+use Rattle.pieces.specs.declared.TableIndex.{TableIndex}
+use Rattle.pieces.specs.code.TableIndex.{index_row, index_rows, empty_index, table_index}
 
 rows_few : (n : ℕ) (kinds : List ℕ) (k : ℕ) → length (rows_from n kinds k) ≤ n
 unfolding rows_from
@@ -19,7 +21,7 @@ rows_few (suc n) kinds k = here (is_kind kinds 1 k) (rows_from n kinds (rows_at 
     here true l h = omega arith
     here false l h = omega arith
 
-module _ (t : DeckTable) where
+module _ (t : Table) where
   counted : (ks : List ℕ) (j : ℕ) (x : TableIndex) → x.count ≡ j → (index_rows t j ks x).count ≡ j + length ks
   unfolding index_row
   counted [] j x c = omega arith

@@ -1,16 +1,17 @@
 // The lines of the calls from a cursor on, put into a lent buffer.
 ghost use Rattle.std.specs.Prelude.{◌≡◌, ◌≤◌, length, drop};
-ghost use Rattle.deck.specs.code.Table.{table_given, table_was_given, table_transcripts};
+ghost use Rattle.deck.specs.code.Table.{table_transcripts};
 ghost use Rattle.listing.specs.WindowFile.{window_of};
 ghost use Rattle.listing.specs.Pieces.{steps_at, pack, piece_to};
-ghost use Rattle.pieces.specs.code.TableIndex.{AllAdmitted, table_index, index_given};
+ghost use Rattle.pieces.specs.code.TableIndex.{AllAdmitted, table_index};
 ghost use Rattle.pieces.specs.code.Filling.{filled_as};
 
-use crate::fill::Filled;
+use crate::TableIndex;
 use crate::parsed::fill_parsed;
 use codon::altered_letters;
 use common::little::{u16_at, u64_at};
-use listing::{Cursor, Rest, line_end, line_number, parse_call};
+use deck::Table;
+use listing::{Cursor, Piece, line_end, line_number, parse_call};
 
 // The bases of a window file.
 fn bases_of(window: &[u8]) -> &[u8]
@@ -26,30 +27,15 @@ fn bases_of(window: &[u8]) -> &[u8]
 pub(crate) fn fill_lines(
     window: &[u8],
     calls: &[u8],
-    kinds: &[u8; 4096],
-    marks: &[u8; 4096],
-    ids: &[u32; 4096],
-    numbers: &[u16; 4096],
-    starts: &[u64; 4096],
-    ends: &[u64; 4096],
-    count: usize,
-    rows: &[u16; 4096],
-    short: &[bool; 4096],
-    exons: &[u16; 4096],
-    bounds: &[u16; 4096],
-    segments: &[u16; 4096],
-    bases: &[u16; 4096],
-    sums: &[u32; 4096],
+    table: &Table,
+    index: &TableIndex,
     cursor: Cursor,
     out: &mut [u8],
-) -> Filled
-    requires fact_1 { let d = table_given kinds marks ids numbers starts ends in
-        AllAdmitted d }
-    requires fact_2 { let d = table_given kinds marks ids numbers starts ends in
-        index_given count rows short exons bounds segments bases sums ≡ table_index d }
-    requires fact_3 { let d = table_given kinds marks ids numbers starts ends in
-        length calls.now ≤ 65536 }
-    ensures { let ts = table_transcripts (table_was_given kinds marks ids numbers starts ends) in
+) -> Piece
+    requires admitted { AllAdmitted table.now }
+    requires indexed { index.now ≡ table_index table.now }
+    requires calls_size { length calls.now ≤ 65536 }
+    ensures { let ts = table_transcripts table.now in
         let p = pack (length out.old) (steps_at ts (window_of window.now) calls.now cursor) in
         (result ≡ filled_as p) × (out.new ≡ piece_to out.old p) }
 {
@@ -68,39 +54,26 @@ pub(crate) fn fill_lines(
             chromosome,
             first,
             window_bases,
-            kinds,
-            marks,
-            ids,
-            numbers,
-            starts,
-            ends,
-            count,
-            rows,
-            short,
-            exons,
-            bounds,
-            segments,
-            bases,
-            sums,
+            table,
+            index,
             parse_call(&calls[at..to]),
             number,
             Cursor { at, entry },
             &mut out[filled..],
         );
         filled += put.length;
-        let rest = put.rest;
-        let Rest::Nothing = rest else {
-            return Filled {
+        if let Some(next) = put.next {
+            return Piece {
                 length: filled,
-                rest,
+                next: Some(next),
             };
-        };
+        }
         at = to;
         entry = 0;
         number += 1;
     }
-    Filled {
+    Piece {
         length: filled,
-        rest: Rest::Nothing,
+        next: None,
     }
 }

@@ -1,38 +1,41 @@
 // A piece of a listing: as many whole lines as fit into a lent buffer.
 ghost use Rattle.std.specs.Prelude.{◌≡◌, [], ◌∷◌, length};
+ghost use Rattle.common.specs.Refusal.{number};
 ghost use Rattle.lines.specs.Line.{refusal_line};
 ghost use Rattle.listing.specs.Pieces.{pack, packed, piece_by, piece_of, piece_to};
-ghost use Rattle.pieces.specs.code.Opening.{opened, opened_given};
+ghost use Rattle.pieces.specs.code.Opening.{opened, opened_as};
 ghost use Rattle.pieces.specs.code.Filling.{filled_as};
 
-use crate::fill::{Filled, line_filled};
+use crate::TableIndex;
+use crate::fill::line_filled;
 use crate::line::fill_lines;
+use common::refusal::Refusal;
+use deck::{DeckRefusal, Table};
 use lines::line::write_refusal;
-use listing::{Cursor, Opening, Piece, Rest};
+use listing::{Cursor, Piece};
 
-// 28 where not even the first line fits.
-fn piece_of(filled: Filled) -> Piece
-    ensures { result ≡ piece_by filled.length filled.rest }
+// What was put; refused where not even the first line fits.
+fn piece_of(put: Piece) -> Result<Piece, Refusal>
+    ensures { result ≡ piece_by put.length put.next }
 {
-    let length = filled.length;
-    let rest = filled.rest;
-    match rest {
-        Rest::Nothing => Piece::Last { length },
-        Rest::From(next) => {
-            if length == 0 {
-                return Piece::Refused(28);
-            }
-            Piece::Lines { length, next }
-        }
+    if put.length == 0 && put.next.is_some() {
+        return Err(Refusal::LineLength);
     }
+    Ok(put)
 }
 
 // The line of a refused deck, window file or call file.
-fn fill_refusal(record: u16, number: u8, cursor: Cursor, out: &mut [u8]) -> Filled
-    ensures { let p = pack (length out.old) (record { before = cursor; text = refusal_line 0 «record» number } ∷ []) in
+fn fill_refusal(refused: DeckRefusal, cursor: Cursor, out: &mut [u8]) -> Piece
+    ensures { let text = refusal_line 0 refused.«record» (number refused.refusal) in
+        let p = pack (length out.old) (record { before = cursor; text = text } ∷ []) in
         (result ≡ filled_as p) × (out.new ≡ piece_to out.old p) }
 {
-    let written = write_refusal(out, 0, record as u64, number as u64);
+    let written = write_refusal(
+        out,
+        0,
+        u64::from(refused.record),
+        u64::from(u8::from(refused.refusal)),
+    );
     line_filled(written, cursor)
 }
 
@@ -41,34 +44,18 @@ pub fn next_piece(
     deck: &[u8],
     window: &[u8],
     calls: &[u8],
-    opening: Opening,
-    kinds: &[u8; 4096],
-    marks: &[u8; 4096],
-    ids: &[u32; 4096],
-    numbers: &[u16; 4096],
-    starts: &[u64; 4096],
-    ends: &[u64; 4096],
-    count: usize,
-    rows: &[u16; 4096],
-    short: &[bool; 4096],
-    exons: &[u16; 4096],
-    bounds: &[u16; 4096],
-    segments: &[u16; 4096],
-    bases: &[u16; 4096],
-    sums: &[u32; 4096],
+    opening: Result<(), DeckRefusal>,
+    table: &Table,
+    index: &TableIndex,
     cursor: Cursor,
     out: &mut [u8],
-) -> Piece
-    requires { let o = opened_given opening kinds marks ids numbers starts ends count rows short exons bounds segments bases sums in
-        o ≡ opened deck.now window.now calls.now }
+) -> Result<Piece, Refusal>
+    requires { opened_as opening table.now index.now ≡ opened deck.now window.now calls.now }
     ensures { let p = packed deck.now window.now calls.now cursor out.old in
         (result ≡ piece_of p) × (out.new ≡ piece_to out.old p) }
 {
     match opening {
-        Opening::Refused { record, number } => piece_of(fill_refusal(record, number, cursor, out)),
-        Opening::Listing => piece_of(fill_lines(
-            window, calls, kinds, marks, ids, numbers, starts, ends, count, rows, short, exons,
-            bounds, segments, bases, sums, cursor, out,
-        )),
+        Err(refused) => piece_of(fill_refusal(refused, cursor, out)),
+        Ok(()) => piece_of(fill_lines(window, calls, table, index, cursor, out)),
     }
 }

@@ -1,6 +1,6 @@
 -- How long the line of a call can be.
 use Rattle.std.specs.Prelude.{ℕ, ◌≤◌, length}
-use Rattle.consequence.specs.declared.Called.{Called}
+use Rattle.consequence.specs.Called.{Called}
 use Rattle.lines.specs.Line.{called_line}
 
 -- no line, newline included, has more than 1553 bytes

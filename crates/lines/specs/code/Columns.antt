@@ -1,19 +1,16 @@
 -- The parts of a line that the code puts one behind the other.
-use Rattle.std.specs.Prelude.{ℕ, List, [], ◌∷◌, ◌++◌, get_or}
+use Rattle.std.specs.Prelude.{ℕ, List, [], ◌∷◌, ◌++◌}
 use Rattle.common.specs.Text.{bytes, decimal}
 use Rattle.codon.specs.Display.{format_codons, format_amino_acids}
-use Rattle.locate.specs.PlaceKind.{place_names}
+use Rattle.locate.specs.declared.VariantLocation.{VariantLocation}
+use Rattle.locate.specs.PlaceKind.{place_name}
 use Rattle.consequence.specs.Answer.{cdna_count}
 use Rattle.consequence.specs.declared.ConsequenceResult.{ConsequenceResult}
 use Rattle.lines.specs.Line.{newline, space, numbered, counted, term_list}
 
--- the name of the place of a kind
-abbrev pub place_text : ℕ → List ℕ
-place_text kind = bytes (get_or place_names kind "")
-
 -- the line of an answered call in three parts: up to the place, the numbers, and the rest with the newline
-unfoldable pub front_columns : ℕ → ℕ → ℕ → List ℕ
-front_columns number id kind = decimal number ++ (space ∷ (decimal id ++ (space ∷ (bytes "0" ++ (space ∷ (place_text kind ++ (space ∷ [])))))))
+unfoldable pub front_columns : ℕ → ℕ → VariantLocation → List ℕ
+front_columns number id place = decimal number ++ (space ∷ (decimal id ++ (space ∷ (bytes "0" ++ (space ∷ (place_name place ++ (space ∷ [])))))))
 
 unfoldable pub number_columns : ConsequenceResult → List ℕ
 number_columns a =

@@ -1,17 +1,21 @@
 -- The pieces of a listing, joined, are its bytes.
-use Rattle.std.specs.Prelude.{ℕ, zero, suc, ◌≤◌, ◌<◌, ◌≡◌, List, [], ◌++◌, length, take}
+use Rattle.std.specs.Prelude.{ℕ, zero, suc, ◌≤◌, ◌<◌, ◌≡◌, List, [], ◌++◌, length, take, Option, Some, None, Result, Ok, Err}
 use Rattle.listing.specs.declared.Cursor.{Cursor}
 use Rattle.listing.specs.declared.Piece.{Piece}
-use Rattle.listing.specs.declared.Piece.TheVariants.{Lines, Last, Refused}
+use Rattle.common.specs.declared.refusal.Refusal.{Refusal}
 use Rattle.listing.specs.Entries.{Entry, entry_line}
 use Rattle.listing.specs.Listing.{listing, printed}
 use Rattle.listing.specs.Pieces.{start, packed, piece_of, piece_to}
 
+-- what comes from a cursor on, nothing where there is none
+abbrev pub gone_on : Option Cursor → (Cursor → List ℕ) → List ℕ
+gone_on (Some c) go = go c
+gone_on None go = []
+
 -- what a piece left in the buffer, and what comes behind it
-abbrev pub shown : Piece → List ℕ → (List ℕ → Cursor → List ℕ) → List ℕ
-shown (Lines n next) buffer go = take n buffer ++ go buffer next
-shown (Last n) buffer go = take n buffer
-shown (Refused n) buffer go = []
+abbrev pub shown : Result Piece Refusal → List ℕ → (List ℕ → Cursor → List ℕ) → List ℕ
+shown (Ok p) buffer go = take p.length buffer ++ gone_on p.next (go buffer)
+shown (Err r) buffer go = []
 
 -- at most n pieces from a cursor on, each in the buffer as the one before left it
 unfoldable pub output : ℕ → List ℕ → List ℕ → List ℕ → List ℕ → Cursor → List ℕ

@@ -1,9 +1,5 @@
--- What is computed once for the transcripts of a table. By the transcript's place among them: its row, whether it has a short
--- intron, and where its parts end; from its row on the cumulative lengths of its exons and of its CDS.
-use Rattle.std.specs.Prelude.{ℕ, suc, ◌≡◌, Bool, false, cond, List, [], ◌∷◌, map, set, replicate, eqb}
-use Rattle.std.specs.Borrow.{Bor, MutBor}
-use denote.Triple.Both.{Both}
-use Rattle.common.specs.Slices.{Slice, Lent, PassedLent}
+-- The index of a table: what is computed once for its transcripts.
+use Rattle.std.specs.Prelude.{ℕ, suc, ◌≡◌, Bool, false, cond, List, [], ◌∷◌, map, set, get_or, replicate, eqb}
 use Rattle.common.specs.Lists.{any}
 use Rattle.common.specs.Stored.{stored}
 use Rattle.transcript.specs.Transcript.{Transcript}
@@ -12,31 +8,17 @@ use Rattle.transcript.specs.Bases.{size, gaps}
 use Rattle.transcript.specs.Admission.{admission}
 use Rattle.footprint.specs.ShortIntron.{is_frameshift_gap}
 use Rattle.locate.specs.Index.{cumulative}
+use Rattle.pieces.specs.declared.TableIndex.{TableIndex}
 use Rattle.deck.specs.declared.rows.Rows.{Rows}
-use Rattle.deck.specs.code.Table.{DeckTable, rows_at, transcript_at, transcript_rows}
-
-pub record TableIndex : Type 0 where
-  pub count : ℕ
-  pub rows : List ℕ
-  pub short : List Bool
-  pub exons : List ℕ
-  pub bounds : List ℕ
-  pub segments : List ℕ
-  pub bases : List ℕ
-  pub sums : List ℕ
-
-abbrev pub Marks : Type 0
-Marks = Bor (List Bool)
-
-abbrev pub LentMarks : Type 0
-LentMarks = MutBor (List Bool)
+use Rattle.deck.specs.declared.Table.{Table}
+use Rattle.deck.specs.code.Table.{rows_at, transcript_at, transcript_rows}
 
 -- the transcripts at these rows are admitted
-abbrev pub Admits : DeckTable → List ℕ → Type 0
+abbrev pub Admits : Table → List ℕ → Type 0
 Admits t [] = Unit {0}
 Admits t (k ∷ ks) = (admission (transcript_at t k) ≡ 0) × Admits t ks
 
-abbrev pub AllAdmitted : DeckTable → Type 0
+abbrev pub AllAdmitted : Table → Type 0
 AllAdmitted t = Admits t (transcript_rows t)
 
 -- a gap of the exons is short
@@ -56,7 +38,7 @@ abbrev pub row_sums : Transcript → ℕ → ℕ → List ℕ → List ℕ
 row_sums t k c sums = with_cds (oriented t) c (with_exons (oriented t) k sums)
 
 -- the index with transcript j, which stands at row k; its bounds, if it has them, stand behind its exons
-unfoldable pub index_row : DeckTable → ℕ → ℕ → TableIndex → TableIndex
+unfoldable pub index_row : Table → ℕ → ℕ → TableIndex → TableIndex
 index_row t j k x =
     let r = rows_at t.kinds k in
     record {
@@ -71,7 +53,7 @@ index_row t j k x =
     }
 
 -- with the transcripts at these rows, of which the first is transcript j
-abbrev pub index_rows : DeckTable → ℕ → List ℕ → TableIndex → TableIndex
+abbrev pub index_rows : Table → ℕ → List ℕ → TableIndex → TableIndex
 index_rows t j [] x = x
 index_rows t j (k ∷ ks) x = index_rows t (suc j) ks (index_row t j k x)
 
@@ -88,38 +70,12 @@ empty_index = record {
   sums = replicate 4096 0;
 }
 
--- the index whose columns are given, as a `requires` names them
-abbrev pub index_given : ℕ → Slice → Marks → Slice → Slice → Slice → Slice → Slice → TableIndex
-index_given count rows short exons bounds segments bases sums = record {
-  count = count;
-  rows = rows.now;
-  short = short.now;
-  exons = exons.now;
-  bounds = bounds.now;
-  segments = segments.now;
-  bases = bases.now;
-  sums = sums.now;
-}
-
--- the index in columns lent to be filled, as a `requires` names them, and that is left in them
-abbrev pub index_lent : ℕ → Lent → LentMarks → Lent → Lent → Lent → Lent → Lent → TableIndex
-index_lent count rows short exons bounds segments bases sums = record {
-  count = count;
-  rows = rows.now;
-  short = short.now;
-  exons = exons.now;
-  bounds = bounds.now;
-  segments = segments.now;
-  bases = bases.now;
-  sums = sums.now;
-}
-
-abbrev pub index_left : ℕ → PassedLent → Both LentMarks LentMarks → PassedLent → PassedLent → PassedLent → PassedLent → PassedLent → TableIndex
-index_left count rows short exons bounds segments bases sums =
-    index_lent count rows.exit short.exit exons.exit bounds.exit segments.exit bases.exit sums.exit
+-- the rows of the transcript at place k
+abbrev pub rows_in : TableIndex → ℕ → Rows
+rows_in x k = record { exons = get_or x.exons k 0; bounds = get_or x.bounds k 0; segments = get_or x.segments k 0; bases = get_or x.bases k 0 }
 
 -- the index of a table
-abbrev pub table_index : DeckTable → TableIndex
+abbrev pub table_index : Table → TableIndex
 table_index t = index_rows t 0 (transcript_rows t) empty_index
 
 -- where the sums of the CDS are read: at the row of its bounds; where there is none, at the transcript's row, whose sum is 0

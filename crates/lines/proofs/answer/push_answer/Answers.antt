@@ -7,7 +7,7 @@ use Rattle.lines.proofs.answer.push_answer.Goals as goal
 pub returns : goal.returns
 returns c =
     let a = c.args in
-    let p = pushed_on (rw c.place_kind-kind.ensures at c.push_front-a.ensures.pushed) c.push_numbers-b.ensures.pushed in
+    let p = pushed_on c.push_front-a.ensures.pushed c.push_numbers-b.ensures.pushed in
     let q = rw (line_parts a.number a.id a.x) at (pushed_on p c.push_back.ensures.pushed) in
     let b = q.behind in
     let l = answer_length a.number a.id a.x in

@@ -1,25 +1,25 @@
+use Rattle.std.proofs.Common.{Some}
 use native.Mathlib.Omega.{arith}
 use Rattle.common.proofs.Stored.{pushed_on}
 use Rattle.codon.specs.Display.{format_codons}
-use Rattle.codon.specs.declared.Codons.{Codons}
 use Rattle.lines.proofs.Shown.{codon_length_lem}
 use Rattle.lines.proofs.Longest.{codons_length}
 use Rattle.lines.proofs.columns.push_codons.Goals as goal
 
 pub push_byte-after-requires : goal.push_byte-after-requires
-push_byte-after-requires c = omega (arith, codon_length_lem c.in-Change.reference c.in-Change.place, c.push_codon-slash.ensures.behind)
+push_byte-after-requires c = omega (arith, codon_length_lem c.in-Some.c.reference c.in-Some.c.place, c.push_codon-slash.ensures.behind)
 
 pub push_codon-requires : goal.push_codon-requires
-push_codon-requires c = omega (arith, codon_length_lem c.in-Change.reference c.in-Change.place, c.push_codon-slash.ensures.behind, c.push_byte-after.ensures.behind)
+push_codon-requires c = omega (arith, codon_length_lem c.in-Some.c.reference c.in-Some.c.place, c.push_codon-slash.ensures.behind, c.push_byte-after.ensures.behind)
 
-pub returns-in-Absent : goal.returns-in-Absent
+pub returns-in-None : goal.returns-in-None
 unfolding format_codons
-returns-in-Absent c = record { pushed = rw c.in-Absent.is c.push_byte.ensures; upper_bound = omega arith }
+returns-in-None c = record { pushed = rw c.in-None.is c.push_byte.ensures; upper_bound = omega arith }
 
-pub returns-in-Change : goal.returns-in-Change
+pub returns-in-Some : goal.returns-in-Some
 unfolding format_codons
-returns-in-Change c =
+returns-in-Some c =
     let p = pushed_on c.push_codon-slash.ensures (pushed_on c.push_byte-after.ensures c.push_codon.ensures) in
     let b = p.behind in
-    let l = codons_length (Codons.Change c.in-Change.reference c.in-Change.altered c.in-Change.place) in
-    record { pushed = rw c.in-Change.is p; upper_bound = omega arith }
+    let l = codons_length (Some c.in-Some.c) in
+    record { pushed = rw c.in-Some.is p; upper_bound = omega arith }

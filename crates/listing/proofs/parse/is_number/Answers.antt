@@ -1,43 +1,29 @@
-use mathlib.Core.Path.{refl, sym, ◌∙◌}
+use mathlib.Core.Path.{sym, ◌∙◌}
 use native.Mathlib.Omega.{arith}
-use Rattle.listing.proofs.Numbers.{digit_on, digit_low, digit_high, digit_none, number_empty, number_long, number_letter, number_one, number_more}
+use borrow.Author.Tests.{eqb-true, eqb-false, eq-eqb}
+use lib.ListN.{length}
+use Rattle.listing.proofs.Numbers.{number_empty, number_long, number_letter, number_one, number_more}
 use Rattle.listing.proofs.parse.is_number.Goals as goal
+use Rattle.listing.proofs.parse.is_number.Goals.{then-is_empty-via-then-is_empty, then-is_empty-via-else-is_empty+then-most-s, then-is_empty-via-else-is_empty+else-most-s+then-not-all_digits}
 
-pub returns-then-s-eq0 : goal.returns-then-s-eq0
-returns-then-s-eq0 c = number_empty c.args.most c.args.s.now c.if-s-eq0.true
-
-pub returns-then-most-s : goal.returns-then-most-s
-returns-then-most-s c = number_long c.args.most c.args.s.now c.if-most-s.true
-
-pub loop-i-init : goal.loop-i-init
-loop-i-init c = (omega arith, refl)
-
-pub returns-then-b-lt48 : goal.returns-then-b-lt48
-returns-then-b-lt48 c =
+pub returns-then-is_empty : goal.returns-then-is_empty
+returns-then-is_empty c =
     let a = c.args in
-    let l = c.loop-i in
-    number_letter a.most a.s.now (omega arith) (omega arith) (sym l.invariant.1 ∙ digit_low a.s.now l.i (omega arith) c.if-b-lt48.true)
-
-pub returns-then-b-gt57 : goal.returns-then-b-gt57
-returns-then-b-gt57 c =
-    let a = c.args in
-    let l = c.loop-i in
-    number_letter a.most a.s.now (omega arith) (omega arith) (sym l.invariant.1 ∙ digit_high a.s.now l.i (omega arith) c.if-b-gt57.true)
-
-pub loop-i-preserved : goal.loop-i-preserved
-loop-i-preserved c =
-    let a = c.args in
-    let l = c.loop-i in
-    (omega arith, sym (digit_on a.s.now l.i (omega arith) (omega arith) (omega arith)) ∙ l.invariant.1)
+    elim c.then-is_empty.branch [
+      | then-is_empty-via-then-is_empty w ↦ number_empty a.most a.s.now (eqb-true (length a.s.now) 0 (sym c.is_empty.ensures ∙ w.if-is_empty.true))
+      | then-is_empty-via-else-is_empty+then-most-s w ↦ number_long a.most a.s.now w.if-most-s.true
+      | then-is_empty-via-else-is_empty+else-most-s+then-not-all_digits w ↦ (let n = eqb-false (length a.s.now) 0 (sym c.is_empty.ensures ∙ w.if-is_empty.false) in number_letter a.most a.s.now (omega arith) (omega arith) (sym w.all_digits.ensures ∙ w.if-not-all_digits.true))
+    ]
 
 pub returns-then-s-eq1 : goal.returns-then-s-eq1
 returns-then-s-eq1 c =
     let a = c.args in
-    let l = c.loop-i in
-    number_one a.most a.s.now (omega arith) (omega arith) (sym l.invariant.1 ∙ digit_none a.s.now l.i (omega arith))
+    let e = c.if-s-eq1.true in
+    rw (eq-eqb (length a.s.now) 1 e) (number_one a.most a.s.now e (omega arith) (sym c.all_digits.ensures ∙ c.if-not-all_digits.false))
 
-pub returns : goal.returns
-returns c =
+pub returns-else-s-eq1 : goal.returns-else-s-eq1
+returns-else-s-eq1 c =
     let a = c.args in
-    let l = c.loop-i in
-    number_more a.most a.s.now (omega arith) (omega arith) (sym l.invariant.1 ∙ digit_none a.s.now l.i (omega arith))
+    let n = eqb-false (length a.s.now) 0 (sym c.is_empty.ensures ∙ c.if-is_empty.false) in
+    let e = c.if-s-eq1.false in
+    number_more a.most a.s.now (omega arith) (omega arith) (sym c.all_digits.ensures ∙ c.if-not-all_digits.false)

@@ -4,35 +4,19 @@ use native.Mathlib.Omega.{arith}
 use lib.ListN.{length}
 use borrow.Rule.Slice.PartMut.{same_len_mid}
 use Rattle.consequence.specs.Window.{Window}
-use Rattle.deck.specs.code.Table.{DeckTable}
-use Rattle.pieces.specs.code.TableIndex.{TableIndex}
+use Rattle.deck.specs.declared.Table.{Table}
+use Rattle.pieces.specs.declared.TableIndex.{TableIndex}
 use Rattle.pieces.proofs.Filling.{filling_none, filling_length, filling_low, filling_end}
-use Rattle.pieces.proofs.Entries.{steps_end, entry_put, entry_left}
+use Rattle.pieces.proofs.Entries.{count_low, steps_end, entry_put, entry_left}
 use Rattle.pieces.proofs.called.fill_called.Invariants.{steps}
 use Rattle.pieces.proofs.called.fill_called.Goals as goal
 use Rattle.pieces.proofs.called.fill_called.Goals.{Start}
 
-abbrev table : Start → DeckTable
-table b = record {
-  kinds = b.args.kinds.now;
-  marks = b.args.marks.now;
-  ids = b.args.ids.now;
-  numbers = b.args.numbers.now;
-  starts = b.args.starts.now;
-  ends = b.args.ends.now;
-}
+abbrev table : Start → Table
+table b = b.args.table.now
 
 abbrev index : Start → TableIndex
-index b = record {
-  count = b.args.count;
-  rows = b.args.rows.now;
-  short = b.args.short.now;
-  exons = b.args.exons.now;
-  bounds = b.args.bounds.now;
-  segments = b.args.segments.now;
-  bases = b.args.bases.now;
-  sums = b.args.sums.now;
-}
+index b = b.args.index.now
 
 abbrev window : Start → Window
 window b = record { chromosome = b.args.window_chromosome; first = b.args.window_first; bytes = b.args.window.now }
@@ -47,7 +31,7 @@ pub slice_bounds-write_entry-start : goal.slice_bounds-write_entry-start
 slice_bounds-write_entry-start c = let h = filling_low c.loop-entry.invariant in omega arith
 
 pub write_entry-written-requires : goal.write_entry-written-requires
-write_entry-written-requires c = record { fact_1 = c.requires.fact_1; fact_2 = c.requires.fact_2; fact_3 = omega arith; fact_4 = c.requires.fact_3 }
+write_entry-written-requires c = record { admitted = c.requires.admitted; indexed = c.requires.indexed; entry_within = omega arith; letters = c.requires.letters }
 
 pub shape_of-out-in_default : goal.shape_of-out-in_default
 shape_of-out-in_default c =
@@ -59,16 +43,16 @@ pub returns-in_default : goal.returns-in_default
 returns-in_default c =
     let l = c.loop-entry in
     let e = c.write_entry-written in
-    entry_left (table (goal.at.returns-in_default c).Start) (index (goal.at.returns-in_default c).Start) c.requires.fact_2 (window (goal.at.returns-in_default c).Start) c.args.number c.args.call c.args.cursor.at l.entry (omega arith) l.invariant e.ensures.0 e.ensures.1 c.in_default.is
+    entry_left (table (goal.at.returns-in_default c).Start) (index (goal.at.returns-in_default c).Start) c.requires.indexed (window (goal.at.returns-in_default c).Start) c.args.number c.args.call c.args.cursor.at l.entry (omega arith) l.invariant e.ensures.0 e.ensures.1 c.in_default.is
 
 pub overflow_add-filled : goal.overflow_add-filled
 overflow_add-filled c =
     let l = c.loop-entry in
     let e = c.write_entry-written in
-    let f = entry_put (table (goal.at.overflow_add-filled c).Start) (index (goal.at.overflow_add-filled c).Start) c.requires.fact_2 (window (goal.at.overflow_add-filled c).Start) c.args.number c.args.call c.args.cursor.at l.entry (omega arith) l.invariant e.ensures.0 e.ensures.1 c.in-Bytes.is in
+    let f = entry_put (table (goal.at.overflow_add-filled c).Start) (index (goal.at.overflow_add-filled c).Start) c.requires.indexed (window (goal.at.overflow_add-filled c).Start) c.args.number c.args.call c.args.cursor.at l.entry (omega arith) l.invariant e.ensures.0 e.ensures.1 c.in-Ok.is in
     let g = filling_low f in
     let h = same_len_mid l.filled (length l.out - l.filled) l.out e.new.out e.auto.out in
-    let k = c.well_formed.1.1.1.1.1.1.1.1.1.1.1.1.1.1.1.1.1.1.1.1.1.0 in
+    let k = c.well_formed.1.1.1.1.1.1.1.1.1.0 in
     let j = filling_length l.invariant in
     omega arith
 
@@ -76,7 +60,7 @@ pub loop-entry-preserved : goal.loop-entry-preserved
 loop-entry-preserved c =
     let l = c.loop-entry in
     let e = c.write_entry-written in
-    entry_put (table (goal.at.loop-entry-preserved c).Start) (index (goal.at.loop-entry-preserved c).Start) c.requires.fact_2 (window (goal.at.loop-entry-preserved c).Start) c.args.number c.args.call c.args.cursor.at l.entry (omega arith) l.invariant e.ensures.0 e.ensures.1 c.in-Bytes.is
+    entry_put (table (goal.at.loop-entry-preserved c).Start) (index (goal.at.loop-entry-preserved c).Start) c.requires.indexed (window (goal.at.loop-entry-preserved c).Start) c.args.number c.args.call c.args.cursor.at l.entry (omega arith) l.invariant e.ensures.0 e.ensures.1 c.in-Ok.is
 
 pub shape_of-out : goal.shape_of-out
 shape_of-out c = filling_length c.loop-entry.invariant
@@ -84,4 +68,7 @@ shape_of-out c = filling_length c.loop-entry.invariant
 pub returns : goal.returns
 returns c =
     let l = c.loop-entry in
-    filling_end l.invariant (steps_end (table (goal.at.returns c).Start) (index (goal.at.returns c).Start) c.requires.fact_2 (window (goal.at.returns c).Start) c.args.number c.args.call c.args.cursor.at l.entry (omega arith))
+    filling_end l.invariant (steps_end (table (goal.at.returns c).Start) (index (goal.at.returns c).Start) c.requires.indexed (window (goal.at.returns c).Start) c.args.number c.args.call c.args.cursor.at l.entry (omega arith))
+
+pub overflow_add-entry : goal.overflow_add-entry
+overflow_add-entry c = let h = count_low (table (goal.at.overflow_add-entry c).Start) (index (goal.at.overflow_add-entry c).Start) c.requires.indexed in omega arith

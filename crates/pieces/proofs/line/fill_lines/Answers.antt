@@ -3,7 +3,8 @@ use mathlib.Core.Path.{◌∙◌}
 use native.Mathlib.Omega.{arith}
 use lib.ListN.{length}
 use borrow.Rule.Slice.PartMut.{mid_of, same_len_mid}
-use Rattle.deck.specs.code.Table.{DeckTable, table_transcripts}
+use Rattle.deck.specs.declared.Table.{Table}
+use Rattle.deck.specs.code.Table.{table_transcripts}
 use Rattle.listing.specs.WindowFile.{window_of}
 use Rattle.listing.proofs.Lines.{line_inside}
 use Rattle.pieces.proofs.Filling.{filled_fits, filling_none, filling_length, filling_low, mid_length, filling_end}
@@ -11,15 +12,8 @@ use Rattle.pieces.proofs.CallLines.{window_is, few_lines, put_as, lines_from, li
 use Rattle.pieces.proofs.line.fill_lines.Goals as goal
 use Rattle.pieces.proofs.line.fill_lines.Goals.{After-line_end-to, Start}
 
-abbrev table : Start → DeckTable
-table b = record {
-  kinds = b.args.kinds.now;
-  marks = b.args.marks.now;
-  ids = b.args.ids.now;
-  numbers = b.args.numbers.now;
-  starts = b.args.starts.now;
-  ends = b.args.ends.now;
-}
+abbrev table : Start → Table
+table b = b.args.table.now
 
 -- the line ends behind its start, within the calls
 inside : (c : After-line_end-to) → (c.loop-at.at < c.line_end-to.result) × (c.line_end-to.result ≤ length c.args.calls.now)
@@ -45,7 +39,7 @@ loop-at-init c =
     let a = c.args in
     let l = few_lines a.calls.now a.cursor.at in
     let e = c.line_number-number.ensures in
-    let h = c.requires.fact_3 in
+    let h = c.requires.calls_size in
     (filling_none a.out.now (lines_from (table_transcripts (table (goal.at.loop-at-init c).Start)) (window_of a.window.now) a.calls.now c.line_number-number.result a.cursor.at a.cursor.entry), omega arith)
 
 pub line_end-to-requires : goal.line_end-to-requires
@@ -70,7 +64,7 @@ pub slice_bounds-fill_parsed-start : goal.slice_bounds-fill_parsed-start
 slice_bounds-fill_parsed-start c = let h = filling_low c.loop-at.invariant.0 in omega arith
 
 pub fill_parsed-put-requires : goal.fill_parsed-put-requires
-fill_parsed-put-requires c = record { fact_1 = c.requires.fact_1; fact_2 = c.requires.fact_2; fact_3 = c.altered_letters-both.ensures }
+fill_parsed-put-requires c = record { admitted = c.requires.admitted; indexed = c.requires.indexed; letters = c.altered_letters-both.ensures }
 
 pub overflow_add-filled : goal.overflow_add-filled
 overflow_add-filled c =
@@ -81,23 +75,23 @@ overflow_add-filled c =
     let g = mid_length l.invariant.0 in
     let h = l.invariant.0.within in
     let i = l.invariant.0.at in
-    let k = c.well_formed.1.1.1.1.1.1.1.1.1.1.1.1.1.1.1.1.1.0 in
+    let k = c.well_formed.1.1.1.1.1.0 in
     omega arith
 
-pub shape_of-out-in_default : goal.shape_of-out-in_default
-shape_of-out-in_default c =
+pub shape_of-out-in-Some : goal.shape_of-out-in-Some
+shape_of-out-in-Some c =
     let l = c.loop-at in
     let e = c.fill_parsed-put in
     same_len_mid l.filled (length l.out - l.filled) l.out e.new.out e.auto.out ∙ filling_length l.invariant.0
 
-pub returns-in_default : goal.returns-in_default
-returns-in_default c =
+pub returns-in-Some : goal.returns-in-Some
+returns-in-Some c =
     let a = c.args in
     let l = c.loop-at in
     let p = c.fill_parsed-put in
     let o = window_is a.window.now c.u16_at-chromosome.ensures c.u64_at-first.ensures c.bases_of-window_bases.ensures in
     let n = c.line_number-number.ensures in
-    put_as a.out.now (lines_at (table_transcripts (table (goal.at.returns-in_default c).Start)) (window_of a.window.now) a.calls.now a.cursor n) (line_part (table_transcripts (table (goal.at.returns-in_default c).Start)) (window_of a.window.now) a.calls.now l.number l.at l.entry c.line_end-to.result c.loop-at-test.true c.line_end-to.ensures l.invariant.0 c.parse_call.ensures (rw o at p.ensures.0) (rw o at p.ensures.1) c.in_default.is)
+    put_as a.out.now (lines_at (table_transcripts (table (goal.at.returns-in-Some c).Start)) (window_of a.window.now) a.calls.now a.cursor n) (line_part (table_transcripts (table (goal.at.returns-in-Some c).Start)) (window_of a.window.now) a.calls.now l.number l.at l.entry c.line_end-to.result c.loop-at-test.true c.line_end-to.ensures l.invariant.0 c.parse_call.ensures (rw o at p.ensures.0) (rw o at p.ensures.1) c.in-Some.is)
 
 pub overflow_add-number : goal.overflow_add-number
 overflow_add-number c = let h = c.loop-at.invariant.1 in omega arith
@@ -115,7 +109,7 @@ loop-at-preserved c =
     let i = h.0 in
     let j = h.1 in
     let k = l.invariant.1 in
-    (line_whole (table_transcripts (table (goal.at.loop-at-preserved c).Start)) (window_of a.window.now) a.calls.now l.number l.at l.entry c.line_end-to.result c.loop-at-test.true c.line_end-to.ensures l.invariant.0 c.parse_call.ensures (rw o at p.ensures.0) (rw o at p.ensures.1) c.in-Nothing.is, omega arith)
+    (line_whole (table_transcripts (table (goal.at.loop-at-preserved c).Start)) (window_of a.window.now) a.calls.now l.number l.at l.entry c.line_end-to.result c.loop-at-test.true c.line_end-to.ensures l.invariant.0 c.parse_call.ensures (rw o at p.ensures.0) (rw o at p.ensures.1) c.in_default.is, omega arith)
 
 pub shape_of-out : goal.shape_of-out
 shape_of-out c = filling_length c.loop-at.invariant.0

@@ -1,20 +1,22 @@
 use Rattle.pieces.proofs.Admitting.{table_admitted, opened_is}
+use Rattle.std.proofs.lemmas.Result.{err_from_is_err_and}
 use Rattle.pieces.proofs.open.open_listing.Goals as goal
 
-pub index_table-requires : goal.index_table-requires
-index_table-requires c =
+pub returns-in_err-judge : goal.returns-in_err-judge
+returns-in_err-judge c =
     let a = c.args in
     let r = c.read_deck-answer in
-    record { all_admitted = table_admitted a.deck.now a.window.now a.calls.now r.ensures.value c.judge-opening.ensures c.in-Listing.is r.ensures.ends_value; sums_value = c.requires.sums_value }
+    let p = err_from_is_err_and c.from_residual.result c.from_residual.ensures.1 in
+    rw (p.1, p.2) (opened_is a.deck.now a.window.now a.calls.now r.ensures.value c.judge.ensures c.in_err-judge.was r.ensures.table_after c.requires.index_before)
 
-pub returns-in-Refused : goal.returns-in-Refused
-returns-in-Refused c =
+pub index_table-requires-clause-all_admitted : goal.index_table-requires-clause-all_admitted
+index_table-requires-clause-all_admitted c =
     let a = c.args in
     let r = c.read_deck-answer in
-    opened_is a.deck.now a.window.now a.calls.now r.ensures.value c.judge-opening.ensures c.in-Refused.is r.ensures.ends_value c.requires.sums_value
+    table_admitted a.deck.now a.window.now a.calls.now r.ensures.value c.judge.ensures c.in_ok-judge.was r.ensures.table_after
 
-pub returns-in-Listing : goal.returns-in-Listing
-returns-in-Listing c =
+pub returns : goal.returns
+returns c =
     let a = c.args in
     let r = c.read_deck-answer in
-    opened_is a.deck.now a.window.now a.calls.now r.ensures.value c.judge-opening.ensures c.in-Listing.is r.ensures.ends_value c.index_table.ensures
+    opened_is a.deck.now a.window.now a.calls.now r.ensures.value c.judge.ensures c.in_ok-judge.was r.ensures.table_after c.index_table.ensures
