@@ -1,8 +1,8 @@
 pub mod Nearness
 pub mod Blocks
 pub mod Leaving
-pub mod PlaceRefused
 pub mod Positions
-pub mod CallRefused
+pub mod NearCalls
 pub mod CallList
 pub mod Beside
+pub mod Indexed

@@ -12,20 +12,17 @@ use Rattle.transcript.specs.Orient.{Oriented, orient_base, oriented}
 use Rattle.transcript.specs.Bases.{first_start, last_end}
 use Rattle.transcript.specs.Question.{place_refusal}
 use Rattle.footprint.specs.declared.Ranges.{Ranges}
-use Rattle.footprint.specs.Ranges.{source_ranges, splice_canonical_max, frameshift_intron_max_gap}
+use Rattle.footprint.specs.Ranges.{splice_canonical_max, frameshift_intron_max_gap}
 use Rattle.locate.specs.declared.VariantLocation.{VariantLocation}
 use Rattle.locate.specs.declared.VariantLocation.TheVariants.{Upstream, Downstream, Distal, SpliceRegion}
 use Rattle.locate.specs.declared.SpliceSide.TheVariants.{Donor, Acceptor}
-use Rattle.locate.specs.declared.Located.{Located}
 use Rattle.locate.specs.Intronic.{minus, signed_distance, deep_intron, classify_distances}
 use Rattle.locate.specs.Find.{Found, in_exon, in_intron, outside, find_exon_or_intron}
 use Rattle.locate.specs.Place.{exonic, place_found, locate}
 use Rattle.locate.specs.Query.{locate_variant}
-use Rattle.words.specs.code.Near.{Near, NearAt}
-
--- the source's flank
-pub flank_low : (r : Ranges) → r ≡ source_ranges → r.flank < 2 ^ 32
-flank_low r e = rw e (omega arith)
+use Rattle.common.specs.Refusal.{outcome}
+use Rattle.common.proofs.TestParts.{on_test}
+use Rattle.words.specs.code.Near.{Answers, Near}
 
 near_either : (b : Bool) (x y : VariantLocation) → (b ≡ true → Near x) → Near y → Near (cond b x y)
 near_either true x y f n = f refl
@@ -67,11 +64,11 @@ near_place r l t p =
     (λ h. near_either (leb (p - last_end t.exons + 1) r.flank) (Downstream (p - last_end t.exons + 1)) Distal (λ k. (let h = leb-true (p - last_end t.exons + 1) r.flank k in omega arith)) tt)
     (near_found r t p (find_exon_or_intron t.exons p)))
 
-near_answer : (b : Bool) (place : VariantLocation) (n : ℕ) → Near place → NearAt (cond b (Located.At place) (Located.Refused n))
-near_answer true place n h = h
-near_answer false place n h = tt
+-- an outcome is as said where its answer is
+pub near_outcome : {A : Type 0} (Says : A → Type 0) (n : ℕ) (x : A) → Says x → Answers Says (outcome n x)
+near_outcome Says n x h = on_test (eqb n 0) (λ e. rw e h) (λ e. rw e tt)
 
 -- of the question of a place
-pub near_located : (r : Ranges) → r.flank < 2 ^ 32 → (t : Transcript) (c s e : ℕ) → NearAt (locate_variant r t c s e)
+pub near_located : (r : Ranges) → r.flank < 2 ^ 32 → (t : Transcript) (c s e : ℕ) → Answers Near (locate_variant r t c s e)
 unfolding locate_variant
-near_located r l t c s e = near_answer (eqb (place_refusal t c s e) 0) _ _ (near_place r l (oriented t) (orient_base t.model.strand s))
+near_located r l t c s e = near_outcome Near (place_refusal t c s e) _ (near_place r l (oriented t) (orient_base t.model.strand s))

@@ -7,7 +7,8 @@ use Rattle.footprint.specs.declared.Ranges.{Ranges}
 use Rattle.footprint.specs.Ranges.{source_ranges}
 use Rattle.consequence.specs.declared.Call.{Call}
 use Rattle.consequence.specs.Window.{Window}
-use Rattle.consequence.specs.Numbers.{called_number, called_words}
+use Rattle.common.specs.Refusal.{outcome_number}
+use Rattle.consequence.specs.Numbers.{called_words}
 use Rattle.consequence.specs.Call.{annotate_snv}
 use Rattle.words.specs.Lengths.{calls_fit}
 use Rattle.answers.specs.Left.{Answered, list_refusal}
@@ -22,7 +23,7 @@ call_words r t w q = called_words (annotate_snv r t w q)
 
 abbrev pub CallAnswered : Transcript → Window → Call → List ℤ → List ℤ → ℕ → Type 0
 CallAnswered t w q before after number =
-    Answered (called_number (annotate_snv source_ranges t w q)) (call_words source_ranges t w q) before after number
+    Answered (outcome_number (annotate_snv source_ranges t w q)) (call_words source_ranges t w q) before after number
 
 -- calls lent as four lists; the shortest list decides
 unfoldable pub calls_of : List ℕ → List ℕ → List ℕ → List ℕ → List Call

@@ -2,7 +2,8 @@
 use Rattle.std.specs.Prelude.{ℕ, ◌≡◌, Bool, cond, List, eqb, ℤ}
 use Rattle.transcript.specs.Transcript.{Transcript}
 use Rattle.footprint.specs.Ranges.{source_ranges}
-use Rattle.locate.specs.Numbers.{located_number, located_words}
+use Rattle.common.specs.Refusal.{outcome_number}
+use Rattle.locate.specs.Numbers.{located_words}
 use Rattle.locate.specs.Query.{locate_variant}
 
 -- the words where nothing is refused; else nothing is written
@@ -21,5 +22,5 @@ list_refusal fits refusal = cond fits refusal 1
 -- the place of [s, e) in 8 numbers
 abbrev pub PlaceAnswered : Transcript → ℕ → ℕ → ℕ → List ℤ → List ℤ → ℕ → Type 0
 PlaceAnswered t chromosome s e before after number =
-    Answered (located_number (locate_variant source_ranges t chromosome s e))
+    Answered (outcome_number (locate_variant source_ranges t chromosome s e))
     (located_words (locate_variant source_ranges t chromosome s e)) before after number

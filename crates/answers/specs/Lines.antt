@@ -1,18 +1,19 @@
 -- The printed line of a call: what is returned, and what is left in the buffer.
-use Rattle.std.specs.Prelude.{ℕ, ◌≡◌, List}
+use Rattle.std.specs.Prelude.{ℕ, ◌≡◌, List, Result, Ok, Err}
+use Rattle.common.specs.declared.refusal.Refusal.{Refusal}
+use Rattle.common.specs.Refusal.{number}
 use Rattle.transcript.specs.Transcript.{Transcript}
 use Rattle.footprint.specs.Ranges.{source_ranges}
 use Rattle.consequence.specs.declared.Call.{Call}
 use Rattle.consequence.specs.Window.{Window}
 use Rattle.consequence.specs.Call.{annotate_snv}
-use Rattle.lines.specs.declared.Written.{Written}
 use Rattle.lines.specs.Line.{called_line, write_answer, written_to}
 use Rattle.words.specs.declared.VareffectOutcome.{VareffectOutcome}
 
 -- 0 and the line's length, or the refusal's number and 0
-abbrev pub line_outcome : Written → VareffectOutcome
-line_outcome (Written.Bytes n) = record { number = 0; value = n }
-line_outcome (Written.Refused n) = record { number = n; value = 0 }
+abbrev pub line_outcome : Result ℕ Refusal → VareffectOutcome
+line_outcome (Ok n) = record { number = 0; value = n }
+line_outcome (Err r) = record { number = number r; value = 0 }
 
 -- the line with its number in front
 abbrev pub call_line : Transcript → Window → Call → ℕ → List ℕ

@@ -3,7 +3,7 @@ ghost use Rattle.std.specs.Prelude.{◌≡◌, ◌+◌, ◌≤◌, length};
 ghost use Rattle.std.proofs.lemmas.List.Edits.{sets};
 ghost use Rattle.codon.specs.code.Letters.{AlteredLetters};
 ghost use Rattle.transcript.specs.Limits.{top};
-ghost use Rattle.transcript.specs.Transcript.{given, was_given};
+ghost use Rattle.transcript.specs.Transcript.{transcript_of};
 ghost use Rattle.transcript.specs.Orient.{oriented};
 ghost use Rattle.locate.specs.declared.VariantLocation.TheVariants.{CdsExon};
 ghost use Rattle.locate.specs.Place.{locate};
@@ -11,16 +11,17 @@ ghost use Rattle.consequence.specs.Window.{window_from, coding_byte};
 ghost use Rattle.consequence.specs.Call.{call_table, call_codon};
 ghost use Rattle.consequence.specs.Numbers.{called_words};
 ghost use Rattle.consequence.specs.code.AtPlace.{place_called, spilled, spill_at};
-ghost use Rattle.consequence.specs.code.Prepared.{Prepared};
+ghost use Rattle.answers.specs.code.Ready.{Ready};
 
-use consequence::{CdsCodon, read_cds_codon, spill_at, with_mark};
+use common::refusal::Refusal;
+use consequence::{read_cds_codon, spill_at, with_mark};
 use footprint::Ranges;
-use locate::{CdsOffset, IndexScalars, cdna_position};
+use locate::{CdsOffset, LocateIndex, cdna_position};
 use terms::spill_terms;
-use transcript::TranscriptModel;
+use transcript::Transcript;
 use words::{put_coding, put_refusal};
 
-// p, an oriented base, is a base of exon `index` and of that segment, padded offset, codon and place in it, marked or not, and `alt_base`
+// p, an oriented base, is a base of exon `exon` and of that segment, padded offset, codon and place in it, marked or not, and `alt_base`
 // is put in there. The answer as 20 numbers from a position on; 21 where the codon is not all in the window.
 pub(crate) fn put_cds_snv(
     ranges: Ranges,
@@ -28,19 +29,9 @@ pub(crate) fn put_cds_snv(
     first: u64,
     bytes: &[u8],
     alt_base: u8,
-    model: TranscriptModel,
-    exon_starts: &[u64],
-    exon_ends: &[u64],
-    seg_phases: &[u8],
-    seg_exons: &[u16],
-    seg_starts: &[u64],
-    seg_ends: &[u64],
-    selenocysteine: &[u64],
-    scalars: IndexScalars,
-    cumulative_exons: &[u32],
-    cumulative_cds: &[u32],
-    selenocysteine_codons: &[u32; 64],
-    index: u16,
+    transcript: &Transcript,
+    index: &LocateIndex,
+    exon: u16,
     segment: u16,
     offset: CdsOffset,
     number: u32,
@@ -50,32 +41,27 @@ pub(crate) fn put_cds_snv(
     out: &mut [i64],
     at: usize,
 )
-    requires fact_1 { let t = given model exon_starts exon_ends seg_phases seg_exons seg_starts seg_ends selenocysteine in
-        Prepared t scalars cumulative_exons.now cumulative_cds.now selenocysteine_codons.now }
-    requires fact_2 { let t = given model exon_starts exon_ends seg_phases seg_exons seg_starts seg_ends selenocysteine in
-        CdsExon index segment offset number position mark ≡ locate ranges (oriented t) p }
-    requires fact_3 { let t = given model exon_starts exon_ends seg_phases seg_exons seg_starts seg_ends selenocysteine in
-        AlteredLetters (call_table t) letters.now }
-    requires fact_4 { let t = given model exon_starts exon_ends seg_phases seg_exons seg_starts seg_ends selenocysteine in
-        p ≤ top }
-    requires fact_5 { let t = given model exon_starts exon_ends seg_phases seg_exons seg_starts seg_ends selenocysteine in
-        at + 20 ≤ length out.old }
-    ensures { let t = was_given model exon_starts exon_ends seg_phases seg_exons seg_starts seg_ends selenocysteine in
+    requires ready { Ready (transcript_of transcript.now) index.now }
+    requires located { CdsExon exon segment offset number position mark ≡ locate ranges (oriented (transcript_of transcript.now)) p }
+    requires letters { AlteredLetters (call_table (transcript_of transcript.now)) letters.now }
+    requires low { p ≤ top }
+    requires room { at + 20 ≤ length out.old }
+    ensures { let t = transcript_of transcript.now in
         let codon = call_codon t (window_from first bytes.now) in
-        let place = CdsExon index segment offset number position mark in
-        let x = place_called (call_table t) (oriented t) p (coding_byte model.strand alt_base) codon place in
+        let place = CdsExon exon segment offset number position mark in
+        let x = place_called (call_table t) (oriented t) p (coding_byte transcript.now.model.strand alt_base) codon place in
         out.new ≡ sets out.old at (called_words (spilled (spill_at (oriented t) p) x)) }
 {
-    let strand = model.strand;
+    let strand = transcript.model.strand;
+    let scalars = index.scalars;
     let read = read_cds_codon(
         letters,
         scalars,
-        model.cds_start_complete,
+        transcript.model.cds_start_complete,
         strand,
-        seg_starts,
-        seg_ends,
-        cumulative_cds,
-        selenocysteine_codons,
+        transcript.segments.bases,
+        &index.cumulative_cds,
+        &index.selenocysteine_codons,
         first,
         bytes,
         alt_base,
@@ -84,27 +70,24 @@ pub(crate) fn put_cds_snv(
         number,
         position,
     );
-    let CdsCodon::Read(columns) = read else {
-        put_refusal(out, at, 21);
+    let Some(columns) = read else {
+        put_refusal(out, at, Refusal::CodonOutsideWindow);
         return;
     };
-    let short = scalars.has_frameshift_intron;
-    let spill = spill_at(short, exon_starts, exon_ends, strand, p);
+    let spill = spill_at(scalars.has_frameshift_intron, transcript.exons, strand, p);
     let marked = with_mark(columns.terms, mark);
-    let terms = spill_terms(spill.donor, spill.acceptor, marked);
-    let cdna = cdna_position(scalars.utr5_exonic_len, scalars.cds_start_pad, offset);
     put_coding(
         out,
         at,
-        model.exon_count,
-        index,
+        transcript.model.exon_count,
+        exon,
         segment,
         offset,
         number,
         position,
         mark,
-        cdna,
+        cdna_position(scalars.utr5_exonic_len, scalars.cds_start_pad, offset),
         columns,
-        terms,
+        spill_terms(spill.donor, spill.acceptor, marked),
     );
 }

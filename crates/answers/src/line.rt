@@ -1,24 +1,26 @@
 // The printed line of a call on a transcript.
 ghost use Rattle.std.specs.Prelude.{◌≡◌};
-ghost use Rattle.transcript.specs.Transcript.{was_given};
+ghost use Rattle.transcript.specs.Transcript.{transcript_of};
 ghost use Rattle.consequence.specs.Window.{window_was_given};
 ghost use Rattle.answers.specs.Lines.{line_outcome, LineAnswered};
 
+use common::refusal::Refusal;
 use consequence::{Call, annotate_snv};
-use lines::{Written, write_called};
-use transcript::TranscriptModel;
+use lines::write_called;
+use transcript::Transcript;
 use words::VareffectOutcome;
 
-fn outcome_of(w: Written) -> VareffectOutcome
-    ensures { result ≡ line_outcome w }
+// C takes a number and a value.
+fn outcome_of(written: Result<usize, Refusal>) -> VareffectOutcome
+    ensures { result ≡ line_outcome written }
 {
-    match w {
-        Written::Bytes(n) => VareffectOutcome {
+    match written {
+        Ok(length) => VareffectOutcome {
             number: 0,
-            value: n as u64,
+            value: length as u64,
         },
-        Written::Refused(n) => VareffectOutcome {
-            number: n as u64,
+        Err(refusal) => VareffectOutcome {
+            number: refusal as u64,
             value: 0,
         },
     }
@@ -31,34 +33,14 @@ pub fn answer_line(
     window_first: u64,
     window: &[u8],
     call: Call,
-    model: TranscriptModel,
-    exon_starts: &[u64],
-    exon_ends: &[u64],
-    seg_phases: &[u8],
-    seg_exons: &[u16],
-    seg_starts: &[u64],
-    seg_ends: &[u64],
-    selenocysteine: &[u64],
+    transcript: &Transcript,
     out: &mut [u8],
 ) -> VareffectOutcome
-    ensures { let t = was_given model exon_starts exon_ends seg_phases seg_exons seg_starts seg_ends selenocysteine in
+    ensures { let t = transcript_of transcript.now in
         let w = window_was_given window_chromosome window_first window in
         LineAnswered t w call number out.old out.new result }
 {
-    let called = annotate_snv(
-        window_chromosome,
-        window_first,
-        window,
-        call,
-        model,
-        exon_starts,
-        exon_ends,
-        seg_phases,
-        seg_exons,
-        seg_starts,
-        seg_ends,
-        selenocysteine,
-    );
-    let written = write_called(out, number, model.id, called);
+    let called = annotate_snv(window_chromosome, window_first, window, call, transcript);
+    let written = write_called(out, number, transcript.model.id, called);
     outcome_of(written)
 }

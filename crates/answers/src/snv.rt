@@ -2,18 +2,18 @@
 ghost use Rattle.std.specs.Prelude.{◌≡◌, ◌+◌, ◌≤◌, ◌<◌, ◌^◌, length};
 ghost use Rattle.std.proofs.lemmas.List.Edits.{sets};
 ghost use Rattle.codon.specs.code.Letters.{AlteredLetters};
-ghost use Rattle.transcript.specs.Transcript.{given, was_given};
+ghost use Rattle.transcript.specs.Transcript.{transcript_of};
 ghost use Rattle.consequence.specs.Window.{window_was_given};
 ghost use Rattle.consequence.specs.Call.{call_table};
-ghost use Rattle.consequence.specs.code.Prepared.{Prepared};
 ghost use Rattle.answers.specs.Calls.{call_words};
+ghost use Rattle.answers.specs.code.Ready.{Ready};
 
 use crate::cds::put_cds_snv;
 use crate::order::place_by_order;
-use consequence::{Call, annotate_placed, opening_refusal};
+use consequence::{Call, annotate_placed, judge_opening};
 use footprint::Ranges;
-use locate::{IndexScalars, VariantLocation};
-use transcript::TranscriptModel;
+use locate::{LocateIndex, VariantLocation};
+use transcript::Transcript;
 use transcript::question::base_of;
 use words::{put_called, put_refusal};
 
@@ -27,61 +27,31 @@ pub(crate) fn put_snv(
     window_first: u64,
     window: &[u8],
     call: Call,
-    model: TranscriptModel,
-    exon_starts: &[u64],
-    exon_ends: &[u64],
-    seg_phases: &[u8],
-    seg_exons: &[u16],
-    seg_starts: &[u64],
-    seg_ends: &[u64],
-    selenocysteine: &[u64],
-    scalars: IndexScalars,
-    cumulative_exons: &[u32],
-    cumulative_cds: &[u32],
-    selenocysteine_codons: &[u32; 64],
+    transcript: &Transcript,
+    index: &LocateIndex,
     out: &mut [i64],
     at: usize,
 )
-    requires fact_1 { let t = given model exon_starts exon_ends seg_phases seg_exons seg_starts seg_ends selenocysteine in
-        Prepared t scalars cumulative_exons.now cumulative_cds.now selenocysteine_codons.now }
-    requires fact_2 { let t = given model exon_starts exon_ends seg_phases seg_exons seg_starts seg_ends selenocysteine in
-        AlteredLetters (call_table t) letters.now }
-    requires fact_3 { let t = given model exon_starts exon_ends seg_phases seg_exons seg_starts seg_ends selenocysteine in
-        ranges.flank < 2 ^ 32 }
-    requires fact_4 { let t = given model exon_starts exon_ends seg_phases seg_exons seg_starts seg_ends selenocysteine in
-        at + 20 ≤ length out.old }
-    ensures { let t = was_given model exon_starts exon_ends seg_phases seg_exons seg_starts seg_ends selenocysteine in
-        let w = window_was_given window_chromosome window_first window in
-        out.new ≡ sets out.old at (call_words ranges t w call) }
+    requires ready { Ready (transcript_of transcript.now) index.now }
+    requires letters { AlteredLetters (call_table (transcript_of transcript.now)) letters.now }
+    requires near { ranges.flank < 2 ^ 32 }
+    requires room { at + 20 ≤ length out.old }
+    ensures { let w = window_was_given window_chromosome window_first window in
+        out.new ≡ sets out.old at (call_words ranges (transcript_of transcript.now) w call) }
 {
-    let refusal = opening_refusal(
-        model.chromosome,
+    let opening = judge_opening(
+        transcript.model.chromosome,
         window_chromosome,
         window_first,
         window,
         call,
     );
-    if refusal != 0 {
+    if let Err(refusal) = opening {
         put_refusal(out, at, refusal);
         return;
     }
-    let strand = model.strand;
-    let p = base_of(strand, call.position);
-    let place = place_by_order(
-        ascending,
-        ranges,
-        model,
-        exon_starts,
-        exon_ends,
-        seg_phases,
-        seg_exons,
-        seg_starts,
-        seg_ends,
-        selenocysteine,
-        scalars,
-        cumulative_exons,
-        p,
-    );
+    let p = base_of(transcript.model.strand, call.position);
+    let place = place_by_order(ascending, ranges, transcript, index, p);
     if let VariantLocation::CdsExon {
         exon_index,
         cds_segment_index,
@@ -97,18 +67,8 @@ pub(crate) fn put_snv(
             window_first,
             window,
             call.alt_base,
-            model,
-            exon_starts,
-            exon_ends,
-            seg_phases,
-            seg_exons,
-            seg_starts,
-            seg_ends,
-            selenocysteine,
-            scalars,
-            cumulative_exons,
-            cumulative_cds,
-            selenocysteine_codons,
+            transcript,
+            index,
             exon_index,
             cds_segment_index,
             cds_offset,
@@ -127,18 +87,11 @@ pub(crate) fn put_snv(
         window_first,
         window,
         call.alt_base,
-        model,
-        exon_starts,
-        exon_ends,
-        seg_phases,
-        seg_exons,
-        seg_starts,
-        seg_ends,
-        selenocysteine,
-        scalars,
-        cumulative_exons,
-        cumulative_cds,
-        selenocysteine_codons,
+        transcript,
+        index.scalars,
+        &index.cumulative_exons,
+        &index.cumulative_cds,
+        &index.selenocysteine_codons,
         place,
         p,
     );

@@ -1,14 +1,15 @@
 -- What questions about a deck are answered with.
-use Rattle.deck.specs.declared.DeckAnswer.{DeckAnswer}
-use Rattle.deck.specs.Numbers.{deck_number, deck_record}
-use Rattle.contents.specs.declared.Content.{Content}
-use Rattle.contents.specs.Numbers.{content_number, content_value}
+use Rattle.std.specs.Prelude.{ℕ, Result, Ok, Err}
+use Rattle.common.specs.Refusal.{number}
+use Rattle.deck.specs.declared.DeckRefusal.{DeckRefusal}
 use Rattle.words.specs.declared.VareffectOutcome.{VareffectOutcome}
 
--- 0 and 0 where the deck is accepted, else the refusal and its record
-abbrev pub deck_outcome : DeckAnswer → VareffectOutcome
-deck_outcome a = record { number = deck_number a; value = deck_record a }
-
 -- 0 and how many transcripts there are, or the refusal and its record
-abbrev pub content_outcome : Content → VareffectOutcome
-content_outcome c = record { number = content_number c; value = content_value c }
+abbrev pub deck_outcome : Result ℕ DeckRefusal → VareffectOutcome
+deck_outcome (Ok n) = record { number = 0; value = n }
+deck_outcome (Err e) = record { number = number e.refusal; value = e.record }
+
+-- where a deck is only judged, an accepted one stands for 0
+abbrev pub uncounted : Result Unit DeckRefusal → Result ℕ DeckRefusal
+uncounted (Ok x) = Ok 0
+uncounted (Err e) = Err e

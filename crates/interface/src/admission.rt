@@ -2,12 +2,12 @@
 ghost use Rattle.std.specs.Prelude.{◌≡◌};
 ghost use Rattle.transcript.specs.Transcript.{was_given};
 ghost use Rattle.transcript.specs.Admission.{admission_of};
-ghost use Rattle.transcript.specs.Numbers.{admission_number};
+ghost use Rattle.common.specs.Refusal.{outcome_number};
 ghost use Rattle.words.specs.Model.{model_of};
 
+use crate::given::{number_of, transcript_of};
 use transcript::admit;
-use transcript::question::refusal_number;
-use words::{VareffectModel, model_of};
+use words::VareffectModel;
 
 // The number of the transcript's refusal, 1 to 13, or 0.
 pub fn vareffect_admit(
@@ -21,10 +21,10 @@ pub fn vareffect_admit(
     selenocysteine: &[u64],
 ) -> u8
     ensures { let t = was_given (model_of model) exon_starts exon_ends seg_phases seg_exons seg_starts seg_ends selenocysteine in
-        result ≡ admission_number (admission_of t) }
+        result ≡ outcome_number (admission_of t) }
 {
-    let admitted = admit(
-        model_of(model),
+    let transcript = transcript_of(
+        model,
         exon_starts,
         exon_ends,
         seg_phases,
@@ -33,5 +33,5 @@ pub fn vareffect_admit(
         seg_ends,
         selenocysteine,
     );
-    refusal_number(admitted)
+    number_of(admit(&transcript))
 }

@@ -4,8 +4,9 @@ ghost use Rattle.words.specs.Model.{model_of};
 ghost use Rattle.words.specs.Call.{call_of, window_of};
 ghost use Rattle.answers.specs.Calls.{CallAnswered, CallsAnswered};
 
+use crate::given::{number_of, transcript_of};
 use answers::{answer_call, answer_calls};
-use words::{VareffectCall, VareffectModel, VareffectWindow, call_of, model_of};
+use words::{VareffectCall, VareffectModel, VareffectWindow, call_of};
 
 // The answer to a call as 20 numbers, or the number of the refusal.
 pub fn vareffect_call(
@@ -26,12 +27,8 @@ pub fn vareffect_call(
         let w = window_of window bases in
         CallAnswered t w (call_of call) out.old out.new result }
 {
-    answer_call(
-        window.chromosome,
-        window.first,
-        bases,
-        call_of(call),
-        model_of(model),
+    let transcript = transcript_of(
+        model,
         exon_starts,
         exon_ends,
         seg_phases,
@@ -39,8 +36,16 @@ pub fn vareffect_call(
         seg_starts,
         seg_ends,
         selenocysteine,
+    );
+    let answer = answer_call(
+        window.chromosome,
+        window.first,
+        bases,
+        call_of(call),
+        &transcript,
         out,
-    )
+    );
+    number_of(answer)
 }
 
 // For each call its answer as 20 numbers; 1 where the lists differ in length or `out` does not have 20 elements for each.
@@ -65,15 +70,8 @@ pub fn vareffect_calls(
         let w = window_of window bases in
         CallsAnswered t w chromosomes.now positions.now refs.now alts.now out.old out.new result }
 {
-    answer_calls(
-        window.chromosome,
-        window.first,
-        bases,
-        chromosomes,
-        positions,
-        refs,
-        alts,
-        model_of(model),
+    let transcript = transcript_of(
+        model,
         exon_starts,
         exon_ends,
         seg_phases,
@@ -81,6 +79,17 @@ pub fn vareffect_calls(
         seg_starts,
         seg_ends,
         selenocysteine,
+    );
+    let answer = answer_calls(
+        window.chromosome,
+        window.first,
+        bases,
+        chromosomes,
+        positions,
+        refs,
+        alts,
+        &transcript,
         out,
-    )
+    );
+    number_of(answer)
 }

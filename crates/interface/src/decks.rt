@@ -3,58 +3,40 @@ ghost use Rattle.std.specs.Prelude.{◌≡◌};
 ghost use Rattle.common.specs.Stored.{stored};
 ghost use Rattle.deck.specs.Deck.{read_deck};
 ghost use Rattle.contents.specs.Contents.{deck_content, deck_ids, place_content, chosen, Stored};
-ghost use Rattle.interface.specs.Decks.{deck_outcome, content_outcome};
+ghost use Rattle.interface.specs.Decks.{deck_outcome, uncounted};
 
-use contents::{Content, deck_ids, deck_transcript};
-use deck::{DeckAnswer, check_deck};
+use contents::{deck_ids, deck_transcript};
+use deck::{DeckRefusal, check_deck};
 use words::VareffectOutcome;
 
-fn refused(number: u8, record: u16) -> VareffectOutcome
-    ensures { result ≡ record { number = number; value = «record» } }
-{
-    VareffectOutcome {
-        number: number as u64,
-        value: record as u64,
-    }
-}
-
-fn deck_outcome(answer: DeckAnswer) -> VareffectOutcome
+fn deck_outcome(answer: Result<usize, DeckRefusal>) -> VareffectOutcome
     ensures { result ≡ deck_outcome answer }
 {
     match answer {
-        DeckAnswer::Accepted => VareffectOutcome {
-            number: 0,
-            value: 0,
-        },
-        DeckAnswer::Refused { number, record } => refused(number, record),
-    }
-}
-
-fn content_outcome(content: Content) -> VareffectOutcome
-    ensures { result ≡ content_outcome content }
-{
-    match content {
-        Content::Held(n) => VareffectOutcome {
+        Ok(n) => VareffectOutcome {
             number: 0,
             value: n as u64,
         },
-        Content::Refused { number, record } => refused(number, record),
+        Err(e) => VareffectOutcome {
+            number: u64::from(u8::from(e.refusal)),
+            value: u64::from(e.record),
+        },
     }
 }
 
 // The number of a deck's refusal and the record at fault; 0 and 0 where the deck is accepted.
 pub fn vareffect_check_deck(bytes: &[u8]) -> VareffectOutcome
-    ensures { result ≡ deck_outcome (read_deck bytes.now) }
+    ensures { result ≡ deck_outcome (uncounted (read_deck bytes.now)) }
 {
-    deck_outcome(check_deck(bytes))
+    deck_outcome(check_deck(bytes).map(|()| 0))
 }
 
 // How many transcripts the deck has. Their ids are stored at the front of `ids` as far as it reaches.
 pub fn vareffect_deck_ids(bytes: &[u8], ids: &mut [u32]) -> VareffectOutcome
-    ensures value { result ≡ content_outcome (deck_content bytes.now) }
+    ensures value { result ≡ deck_outcome (deck_content bytes.now) }
     ensures ids_after { ids.new ≡ stored ids.old 0 (deck_ids bytes.now) }
 {
-    content_outcome(deck_ids(bytes, ids))
+    deck_outcome(deck_ids(bytes, ids))
 }
 
 // The transcript at a place in chain order, and how many the deck has; 25 where none stands there. Its scalars and lists are stored
@@ -71,11 +53,11 @@ pub fn vareffect_deck_transcript(
     seg_ends: &mut [u64; 512],
     selenocysteine: &mut [u64; 64],
 ) -> VareffectOutcome
-    ensures value { result ≡ content_outcome (place_content bytes.now place) }
-    ensures fact { let t = chosen bytes.now place in
+    ensures value { result ≡ deck_outcome (place_content bytes.now place) }
+    ensures lists_after { let t = chosen bytes.now place in
         Stored t scalars exon_starts exon_ends seg_phases seg_exons seg_starts seg_ends selenocysteine }
 {
-    content_outcome(deck_transcript(
+    deck_outcome(deck_transcript(
         bytes,
         place,
         scalars,

@@ -3,8 +3,9 @@ ghost use Rattle.transcript.specs.Transcript.{was_given};
 ghost use Rattle.words.specs.Model.{model_of};
 ghost use Rattle.answers.specs.Interval.{IntervalAnswered};
 
+use crate::given::{number_of, transcript_of};
 use answers::answer_interval;
-use words::{VareffectModel, model_of};
+use words::VareffectModel;
 
 // The answers about [start, end) as 7 numbers: 0, kind and distance of the flank, whether an end lies in a short intron and its
 // index, donor and acceptor; or the number of the refusal.
@@ -25,11 +26,8 @@ pub fn vareffect_interval(
     ensures { let t = was_given (model_of model) exon_starts exon_ends seg_phases seg_exons seg_starts seg_ends selenocysteine in
         IntervalAnswered t chromosome start end out.old out.new result }
 {
-    answer_interval(
-        chromosome,
-        start,
-        end,
-        model_of(model),
+    let transcript = transcript_of(
+        model,
         exon_starts,
         exon_ends,
         seg_phases,
@@ -37,6 +35,7 @@ pub fn vareffect_interval(
         seg_starts,
         seg_ends,
         selenocysteine,
-        out,
-    )
+    );
+    let answer = answer_interval(chromosome, start, end, &transcript, out);
+    number_of(answer)
 }

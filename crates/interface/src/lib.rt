@@ -6,6 +6,7 @@ mod abi;
 mod admission;
 mod calling;
 mod decks;
+mod given;
 mod interval;
 mod line;
 mod list;

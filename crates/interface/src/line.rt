@@ -4,8 +4,9 @@ ghost use Rattle.words.specs.Model.{model_of};
 ghost use Rattle.words.specs.Call.{call_of, window_of};
 ghost use Rattle.answers.specs.Lines.{LineAnswered};
 
+use crate::given::transcript_of;
 use answers::answer_line;
-use words::{VareffectCall, VareffectModel, VareffectOutcome, VareffectWindow, call_of, model_of};
+use words::{VareffectCall, VareffectModel, VareffectOutcome, VareffectWindow, call_of};
 
 // The line, newline included, at the buffer's start: number 0 and its length; 28 and 0 where it does not fit.
 pub fn vareffect_line(
@@ -27,13 +28,8 @@ pub fn vareffect_line(
         let w = window_of window bases in
         LineAnswered t w (call_of call) number out.old out.new result }
 {
-    answer_line(
-        number,
-        window.chromosome,
-        window.first,
-        bases,
-        call_of(call),
-        model_of(model),
+    let transcript = transcript_of(
+        model,
         exon_starts,
         exon_ends,
         seg_phases,
@@ -41,6 +37,14 @@ pub fn vareffect_line(
         seg_starts,
         seg_ends,
         selenocysteine,
+    );
+    answer_line(
+        number,
+        window.chromosome,
+        window.first,
+        bases,
+        call_of(call),
+        &transcript,
         out,
     )
 }

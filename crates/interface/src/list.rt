@@ -1,19 +1,29 @@
 // The listing of a deck, a window file and calls, piece by piece.
 ghost use Rattle.std.specs.Prelude.{◌≡◌};
 ghost use Rattle.listing.specs.Pieces.{piece_of, piece_to};
-ghost use Rattle.interface.specs.List.{piece_at, piece_outcome, moved, Listed};
+ghost use Rattle.interface.specs.List.{piece_at, piece_outcome, moved_to, moved, Listed};
 
+use common::refusal::Refusal;
 use listing::{Cursor, Piece};
 use pieces::list_piece;
 use words::VareffectOutcome;
 
 // The piece from the cursor on. Behind the end there is none.
-fn piece_at(deck: &[u8], window: &[u8], calls: &[u8], cursor: &[usize; 3], out: &mut [u8]) -> Piece
+fn piece_at(
+    deck: &[u8],
+    window: &[u8],
+    calls: &[u8],
+    cursor: &[usize; 3],
+    out: &mut [u8],
+) -> Result<Piece, Refusal>
     ensures { let p = piece_at deck.now window.now calls.now cursor.now out.old in
         (result ≡ piece_of p) × (out.new ≡ piece_to out.old p) }
 {
     if cursor[2] != 0 {
-        return Piece::Last { length: 0 };
+        return Ok(Piece {
+            length: 0,
+            next: None,
+        });
     }
     let from = Cursor {
         at: cursor[0],
@@ -22,35 +32,38 @@ fn piece_at(deck: &[u8], window: &[u8], calls: &[u8], cursor: &[usize; 3], out: 
     list_piece(deck, window, calls, from, out)
 }
 
-fn outcome_of(piece: Piece) -> VareffectOutcome
+fn outcome_of(piece: Result<Piece, Refusal>) -> VareffectOutcome
     ensures { result ≡ piece_outcome piece }
 {
     match piece {
-        Piece::Lines { length, next } => VareffectOutcome {
+        Ok(piece) => VareffectOutcome {
             number: 0,
-            value: length as u64,
+            value: piece.length as u64,
         },
-        Piece::Last { length } => VareffectOutcome {
-            number: 0,
-            value: length as u64,
-        },
-        Piece::Refused(n) => VareffectOutcome {
-            number: n as u64,
+        Err(refusal) => VareffectOutcome {
+            number: refusal as u64,
             value: 0,
         },
     }
 }
 
-fn move_on(cursor: &mut [usize; 3], piece: Piece)
-    ensures { cursor.new ≡ moved cursor.old piece }
+fn move_to(cursor: &mut [usize; 3], next: Option<Cursor>)
+    ensures { cursor.new ≡ moved_to cursor.old next }
 {
-    match piece {
-        Piece::Lines { length, next } => {
+    match next {
+        Some(next) => {
             cursor[0] = next.at;
             cursor[1] = next.entry;
         }
-        Piece::Last { length } => cursor[2] = 1,
-        Piece::Refused(n) => {}
+        None => cursor[2] = 1,
+    }
+}
+
+fn move_on(cursor: &mut [usize; 3], piece: Result<Piece, Refusal>)
+    ensures { cursor.new ≡ moved cursor.old piece }
+{
+    if let Ok(piece) = piece {
+        move_to(cursor, piece.next);
     }
 }
 

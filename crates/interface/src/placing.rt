@@ -4,8 +4,9 @@ ghost use Rattle.words.specs.Model.{model_of};
 ghost use Rattle.answers.specs.Left.{PlaceAnswered};
 ghost use Rattle.answers.specs.Lists.{PlacesAnswered};
 
+use crate::given::{number_of, transcript_of};
 use answers::{answer_place, answer_places};
-use words::{VareffectModel, model_of};
+use words::VareffectModel;
 
 // The place of [start, end) as 8 numbers, or the number of the refusal.
 pub fn vareffect_place(
@@ -25,11 +26,8 @@ pub fn vareffect_place(
     ensures { let t = was_given (model_of model) exon_starts exon_ends seg_phases seg_exons seg_starts seg_ends selenocysteine in
         PlaceAnswered t chromosome start end out.old out.new result }
 {
-    answer_place(
-        chromosome,
-        start,
-        end,
-        model_of(model),
+    let transcript = transcript_of(
+        model,
         exon_starts,
         exon_ends,
         seg_phases,
@@ -37,8 +35,9 @@ pub fn vareffect_place(
         seg_starts,
         seg_ends,
         selenocysteine,
-        out,
-    )
+    );
+    let answer = answer_place(chromosome, start, end, &transcript, out);
+    number_of(answer)
 }
 
 // For each position p the place of [p, p + 1) as 8 numbers; 1 where `out` does not have 8 elements for each.
@@ -58,10 +57,8 @@ pub fn vareffect_places(
     ensures { let t = was_given (model_of model) exon_starts exon_ends seg_phases seg_exons seg_starts seg_ends selenocysteine in
         PlacesAnswered t chromosome positions.now out.old out.new result }
 {
-    answer_places(
-        chromosome,
-        positions,
-        model_of(model),
+    let transcript = transcript_of(
+        model,
         exon_starts,
         exon_ends,
         seg_phases,
@@ -69,6 +66,7 @@ pub fn vareffect_places(
         seg_starts,
         seg_ends,
         selenocysteine,
-        out,
-    )
+    );
+    let answer = answer_places(chromosome, positions, &transcript, out);
+    number_of(answer)
 }

@@ -2,7 +2,7 @@
 ghost use Rattle.std.specs.Prelude.{◌≡◌};
 ghost use Rattle.transcript.specs.Transcript.{was_given};
 ghost use Rattle.transcript.specs.Admission.{admission_of};
-ghost use Rattle.transcript.specs.Numbers.{admission_number};
+ghost use Rattle.common.specs.Refusal.{outcome_number};
 ghost use Rattle.words.specs.Model.{model_of};
 
 use words::VareffectModel;
@@ -20,7 +20,7 @@ pub extern "C" fn vareffect_admit(
     selenocysteine: &[u64],
 ) -> u8
     ensures { let t = was_given (model_of model) exon_starts exon_ends seg_phases seg_exons seg_starts seg_ends selenocysteine in
-        result ≡ admission_number (admission_of t) }
+        result ≡ outcome_number (admission_of t) }
 {
     interface::vareffect_admit(
         model,

@@ -3,14 +3,14 @@ ghost use Rattle.std.specs.Prelude.{◌≡◌};
 ghost use Rattle.common.specs.Stored.{stored};
 ghost use Rattle.deck.specs.Deck.{read_deck};
 ghost use Rattle.contents.specs.Contents.{deck_content, deck_ids, place_content, chosen, Stored};
-ghost use Rattle.interface.specs.Decks.{deck_outcome, content_outcome};
+ghost use Rattle.interface.specs.Decks.{deck_outcome, uncounted};
 
 use words::VareffectOutcome;
 
 // The number of a deck's refusal and the record at fault; 0 and 0 where the deck is accepted.
 #[unsafe(no_mangle)]
 pub extern "C" fn vareffect_check_deck(bytes: &[u8]) -> VareffectOutcome
-    ensures { result ≡ deck_outcome (read_deck bytes.now) }
+    ensures { result ≡ deck_outcome (uncounted (read_deck bytes.now)) }
 {
     interface::vareffect_check_deck(bytes)
 }
@@ -18,7 +18,7 @@ pub extern "C" fn vareffect_check_deck(bytes: &[u8]) -> VareffectOutcome
 // How many transcripts the deck has. Their ids are stored at the front of `ids` as far as it reaches.
 #[unsafe(no_mangle)]
 pub extern "C" fn vareffect_deck_ids(bytes: &[u8], ids: &mut [u32]) -> VareffectOutcome
-    ensures value { result ≡ content_outcome (deck_content bytes.now) }
+    ensures value { result ≡ deck_outcome (deck_content bytes.now) }
     ensures ids_after { ids.new ≡ stored ids.old 0 (deck_ids bytes.now) }
 {
     interface::vareffect_deck_ids(bytes, ids)
@@ -39,8 +39,8 @@ pub extern "C" fn vareffect_deck_transcript(
     seg_ends: &mut [u64; 512],
     selenocysteine: &mut [u64; 64],
 ) -> VareffectOutcome
-    ensures value { result ≡ content_outcome (place_content bytes.now place) }
-    ensures fact { let t = chosen bytes.now place in
+    ensures value { result ≡ deck_outcome (place_content bytes.now place) }
+    ensures lists_after { let t = chosen bytes.now place in
         Stored t scalars exon_starts exon_ends seg_phases seg_exons seg_starts seg_ends selenocysteine }
 {
     interface::vareffect_deck_transcript(

@@ -1,4 +1,3 @@
 pub mod Putting
 pub mod WordLengths
 pub mod Capping
-pub mod Shown

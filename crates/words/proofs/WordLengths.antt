@@ -1,12 +1,13 @@
 -- How many numbers a place and an answer have.
 -- Assumes nothing.
+use Rattle.std.specs.Prelude.{Result, Err, Ok}
+use Rattle.common.specs.declared.refusal.Refusal.{Refusal}
 use Prim.Native.Nat.{suc}
 use mathlib.Core.Path.{◌≡◌, refl, ◌∙◌, ap}
 use lib.ListN.{length, length-append}
 use Rattle.locate.specs.declared.VariantLocation.{VariantLocation}
 use Rattle.locate.specs.declared.VariantLocation.TheVariants.{Upstream, Downstream, Distal, FivePrimeUtr, CdsExon, ThreePrimeUtr, SpliceDonor, SpliceAcceptor, SpliceRegion, Intron, FrameshiftIntron, NonCodingExon, NonCodingIntron}
-use Rattle.locate.specs.declared.Located.{Located}
-use Rattle.consequence.specs.declared.Called.{Called}
+use Rattle.consequence.specs.Called.{Called}
 use Rattle.locate.specs.Numbers.{place_words, located_words}
 use Rattle.consequence.specs.Numbers.{column_words, called_words}
 
@@ -25,12 +26,12 @@ place_length (FrameshiftIntron i d) = refl
 place_length (NonCodingExon i m) = refl
 place_length (NonCodingIntron i d) = refl
 
-pub located_length : (x : Located) → length (located_words x) ≡ 8
-located_length (Located.At place) = rw (place_length place)
-located_length (Located.Refused n) = refl
+pub located_length : (x : Result VariantLocation Refusal) → length (located_words x) ≡ 8
+located_length (Ok place) = rw (place_length place)
+located_length (Err r) = refl
 
 pub called_length : (x : Called) → length (called_words x) ≡ 20
-called_length (Called.Answered a) =
+called_length (Ok a) =
     let p = place_length a.location in
     ap suc (length-append (place_words a.location) (column_words a) ∙ rw p)
-called_length (Called.Refused n) = refl
+called_length (Err r) = refl

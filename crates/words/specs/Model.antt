@@ -1,9 +1,8 @@
 -- A transcript's scalars as they are handed in.
-use Rattle.std.specs.Prelude.{ℕ, Bool, true, false}
+use Rattle.std.specs.Prelude.{ℕ, Bool, true, false, Option, Some, None}
 use Rattle.transcript.specs.declared.Strand.{Strand}
 use Rattle.transcript.specs.declared.Strand.TheVariants.{Plus, Minus}
 use Rattle.transcript.specs.declared.CdsBounds.{CdsBounds}
-use Rattle.transcript.specs.declared.CdsBounds.TheVariants.{Neither, Both}
 use Rattle.transcript.specs.declared.TranscriptModel.{TranscriptModel}
 use Rattle.words.specs.declared.VareffectModel.{VareffectModel}
 
@@ -12,9 +11,9 @@ strand_of true = Minus
 strand_of false = Plus
 
 -- both bounds, or neither
-abbrev pub bounds_of : Bool → ℕ → ℕ → CdsBounds
-bounds_of true s e = Both s e
-bounds_of false s e = Neither
+abbrev pub bounds_of : Bool → ℕ → ℕ → Option CdsBounds
+bounds_of true s e = Some (record { cds_genomic_start = s; cds_genomic_end = e })
+bounds_of false s e = None
 
 abbrev pub model_of : VareffectModel → TranscriptModel
 model_of m = record {

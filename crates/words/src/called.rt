@@ -1,7 +1,6 @@
 // The answer to a call as numbers.
-ghost use Rattle.std.specs.Prelude.{◌+◌, ◌≤◌, ◌≡◌, length};
+ghost use Rattle.std.specs.Prelude.{◌+◌, ◌≤◌, ◌≡◌, length, Ok, Err};
 ghost use Rattle.std.proofs.lemmas.List.Edits.{sets};
-ghost use Rattle.consequence.specs.declared.Called.{Called};
 ghost use Rattle.consequence.specs.Numbers.{called_words};
 ghost use Rattle.words.specs.code.Put.{put_at};
 ghost use Rattle.words.specs.code.Near.{capped_words};
@@ -10,23 +9,23 @@ use crate::columns::put_columns;
 use crate::located::put_row;
 use crate::row::row_of;
 use crate::words::{has_room, put_counts};
+use common::refusal::Refusal;
 use consequence::{Called, ConsequenceResult};
 
 fn put_result(out: &mut [i64], at: usize, a: ConsequenceResult)
     requires { at + 20 ≤ length out.old }
-    ensures { out.new ≡ sets out.old at (capped_words (Called.Answered a)) }
+    ensures { out.new ≡ sets out.old at (capped_words (Ok a)) }
 {
-    let place = a.location;
-    put_row(out, at, row_of(place));
+    put_row(out, at, row_of(a.location));
     put_columns(out, at + 8, a);
 }
 
 // The number of a refusal with zeros behind it.
-pub fn put_refusal(out: &mut [i64], at: usize, n: u8)
+pub fn put_refusal(out: &mut [i64], at: usize, refusal: Refusal)
     requires { at + 20 ≤ length out.old }
-    ensures { out.new ≡ sets out.old at (called_words (Called.Refused n)) }
+    ensures { out.new ≡ sets out.old at (called_words (Err refusal)) }
 {
-    put_counts(out, at, n as u32, 0, 0, 0);
+    put_counts(out, at, refusal as u32, 0, 0, 0);
     put_counts(out, at + 4, 0, 0, 0, 0);
     put_counts(out, at + 8, 0, 0, 0, 0);
     put_counts(out, at + 12, 0, 0, 0, 0);
@@ -39,8 +38,8 @@ fn store_called(out: &mut [i64], at: usize, called: Called)
     ensures { out.new ≡ sets out.old at (capped_words called) }
 {
     match called {
-        Called::Answered(a) => put_result(out, at, a),
-        Called::Refused(n) => put_refusal(out, at, n),
+        Ok(a) => put_result(out, at, a),
+        Err(refusal) => put_refusal(out, at, refusal),
     }
 }
 

@@ -1,12 +1,11 @@
 // The answer at a coding base as numbers, put from what its codon gives: an answer that is built and taken apart again costs moves.
-ghost use Rattle.std.specs.Prelude.{ℕ, ◌+◌, ◌≤◌, ◌<◌, ◌≡◌, cond, length};
+ghost use Rattle.std.specs.Prelude.{ℕ, ◌+◌, ◌≤◌, ◌<◌, ◌≡◌, cond, length, Ok};
 ghost use Rattle.std.proofs.lemmas.List.Edits.{sets};
 ghost use Rattle.transcript.specs.Limits.{top};
 ghost use Rattle.transcript.specs.Orient.{Oriented};
 ghost use Rattle.locate.specs.declared.VariantLocation.{VariantLocation};
 ghost use Rattle.locate.specs.declared.VariantLocation.TheVariants.{CdsExon};
 ghost use Rattle.locate.specs.Place.{cdna_position};
-ghost use Rattle.consequence.specs.declared.Called.{Called};
 ghost use Rattle.consequence.specs.Answer.{exon_result};
 ghost use Rattle.consequence.specs.Numbers.{column_words, called_words};
 ghost use Rattle.consequence.specs.code.AtPlace.{columns_of};
@@ -88,7 +87,7 @@ pub fn put_coding(
     ensures { (t : Oriented) (p : ℕ)
         → length t.exons ≡ exons
         → cdna_position t p ≡ cdna.0
-        → out.new ≡ sets out.old at (called_words (Called.Answered (exon_result t p (CdsExon index segment offset number position mark)
+        → out.new ≡ sets out.old at (called_words (Ok (exon_result t p (CdsExon index segment offset number position mark)
         index (columns_of offset.0 number position c) terms.0))) }
 {
     let row = coding_row(index, segment, offset, number, position, mark);

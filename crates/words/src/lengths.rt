@@ -15,17 +15,9 @@ pub fn calls_fit(
     ensures { result ≡ calls_fit chromosomes.now positions.now refs.now alts.now out.now }
 {
     let n = positions.len();
-    if chromosomes.len() != n {
-        return false;
-    }
-    if refs.len() != n {
-        return false;
-    }
-    if alts.len() != n {
-        return false;
-    }
-    if out.len() % CALL_WORDS != 0 {
-        return false;
-    }
-    out.len() / CALL_WORDS == n
+    chromosomes.len() == n
+        && refs.len() == n
+        && alts.len() == n
+        && out.len() % CALL_WORDS == 0
+        && out.len() / CALL_WORDS == n
 }

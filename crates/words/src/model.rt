@@ -8,37 +8,32 @@ use transcript::{CdsBounds, Strand, TranscriptModel};
 fn strand_of(minus: bool) -> Strand
     ensures { result ≡ strand_of minus }
 {
-    if minus {
-        return Strand::Minus;
-    }
-    Strand::Plus
+    if minus { Strand::Minus } else { Strand::Plus }
 }
 
-fn bounds_of(has_cds: bool, start: u64, end: u64) -> CdsBounds
+fn bounds_of(has_cds: bool, start: u64, end: u64) -> Option<CdsBounds>
     ensures { result ≡ bounds_of has_cds start end }
 {
-    if has_cds {
-        return CdsBounds::Both {
-            cds_genomic_start: start,
-            cds_genomic_end: end,
-        };
+    if !has_cds {
+        return None;
     }
-    CdsBounds::Neither
+    Some(CdsBounds {
+        cds_genomic_start: start,
+        cds_genomic_end: end,
+    })
 }
 
 pub fn model_of(model: VareffectModel) -> TranscriptModel
     ensures { result ≡ model_of model }
 {
-    let strand = strand_of(model.minus);
-    let cds = bounds_of(model.has_cds, model.cds_start, model.cds_end);
     TranscriptModel {
         id: model.id,
         chromosome: model.chromosome,
-        strand,
+        strand: strand_of(model.minus),
         exon_count: model.exon_count,
         tx_start: model.tx_start,
         tx_end: model.tx_end,
-        cds,
+        cds: bounds_of(model.has_cds, model.cds_start, model.cds_end),
         cds_start_complete: model.start_complete,
     }
 }

@@ -1,13 +1,12 @@
 // A place as a row of numbers.
 ghost use Rattle.std.specs.Prelude.{◌≡◌, ◌∷◌, pos};
-ghost use Rattle.common.specs.Flag.{flag};
 ghost use Rattle.locate.specs.declared.VariantLocation.TheVariants.{CdsExon};
-ghost use Rattle.locate.specs.Numbers.{side_number, plain_words, place_words};
+ghost use Rattle.locate.specs.Numbers.{plain_words, place_words};
 ghost use Rattle.words.specs.code.Row.{row_words};
 ghost use Rattle.words.specs.code.Near.{capped_place};
 
 use crate::words::{cap, signed};
-use locate::{CdsOffset, SpliceSide, VariantLocation};
+use locate::{CdsOffset, VariantLocation};
 
 // The numbers of a place. All but the distance count.
 #[derive(Clone, Copy)]
@@ -19,21 +18,6 @@ pub(crate) struct Row {
     pub position: u32,
     pub distance: i64,
     pub number: u32,
-}
-
-pub(crate) fn flag_of(b: bool) -> u32
-    ensures { result ≡ flag b }
-{
-    if b { 1 } else { 0 }
-}
-
-fn side_number(side: SpliceSide) -> u32
-    ensures { result ≡ side_number side }
-{
-    match side {
-        SpliceSide::Donor => 0,
-        SpliceSide::Acceptor => 1,
-    }
 }
 
 // A row with no segment, codon position or codon number.
@@ -64,7 +48,7 @@ pub(crate) fn coding_row(
 {
     Row {
         kind: 4,
-        mark: flag_of(mark),
+        mark: mark as u32,
         index: index as u32,
         segment: segment as u32,
         position: position as u32,
@@ -86,7 +70,7 @@ pub(crate) fn row_of(place: VariantLocation) -> Row
             is_splice_region,
         } => plain(
             3,
-            flag_of(is_splice_region),
+            is_splice_region as u32,
             exon_index,
             offset_from_cds_start,
         ),
@@ -109,12 +93,7 @@ pub(crate) fn row_of(place: VariantLocation) -> Row
             exon_index,
             offset_from_cds_end,
             is_splice_region,
-        } => plain(
-            5,
-            flag_of(is_splice_region),
-            exon_index,
-            offset_from_cds_end,
-        ),
+        } => plain(5, is_splice_region as u32, exon_index, offset_from_cds_end),
         VariantLocation::SpliceDonor {
             intron_index,
             offset,
@@ -127,7 +106,7 @@ pub(crate) fn row_of(place: VariantLocation) -> Row
             intron_index,
             side,
             distance,
-        } => plain(8, side_number(side), intron_index, distance),
+        } => plain(8, side as u32, intron_index, distance),
         VariantLocation::Intron {
             intron_index,
             distance_to_nearest_exon,
@@ -139,7 +118,7 @@ pub(crate) fn row_of(place: VariantLocation) -> Row
         VariantLocation::NonCodingExon {
             exon_index,
             is_splice_region,
-        } => plain(11, flag_of(is_splice_region), exon_index, 0),
+        } => plain(11, is_splice_region as u32, exon_index, 0),
         VariantLocation::NonCodingIntron {
             intron_index,
             distance_to_nearest_exon,

@@ -14,20 +14,14 @@ pub(crate) fn signed(n: u32) -> i64
 pub(crate) fn cap(d: u64) -> u32
     ensures { result ≡ capped d }
 {
-    if d < 4_294_967_295 {
-        return d as u32;
-    }
-    4_294_967_295
+    d.min(4_294_967_295) as u32
 }
 
 // Whether n numbers fit from a position on.
 pub(crate) fn has_room(len: usize, at: usize, n: usize) -> bool
     ensures { result ≡ leb (at + n) len }
 {
-    if len < n {
-        return false;
-    }
-    at <= len - n
+    n <= len && at <= len - n
 }
 
 // Four numbers from a position on.
@@ -54,10 +48,7 @@ pub(crate) fn put_three(out: &mut [i64], at: usize, a: u32, b: u32, c: u32)
     requires { at + 3 ≤ length out.old }
     ensures { out.new ≡ sets out.old at (pos a ∷ pos b ∷ pos c ∷ []) }
 {
-    let x = signed(a);
-    let y = signed(b);
-    let z = signed(c);
-    out[at] = x;
-    out[at + 1] = y;
-    out[at + 2] = z;
+    out[at] = signed(a);
+    out[at + 1] = signed(b);
+    out[at + 2] = signed(c);
 }

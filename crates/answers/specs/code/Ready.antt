@@ -1,13 +1,11 @@
--- A transcript that is admitted, with what its places are read from.
-use Rattle.std.specs.Prelude.{ℕ, ◌≡◌, List}
+-- A transcript that is admitted, with its index.
+use Rattle.std.specs.Prelude.{◌≡◌}
 use Rattle.transcript.specs.Transcript.{Transcript}
 use Rattle.transcript.specs.Orient.{oriented}
 use Rattle.transcript.specs.Admission.{admission}
-use Rattle.locate.specs.declared.IndexScalars.{IndexScalars}
-use Rattle.locate.specs.Index.{index_scalars}
-use Rattle.locate.specs.code.Sums.{ExonSums}
+use Rattle.locate.specs.declared.LocateIndex.{LocateIndex}
+use Rattle.locate.specs.Index.{locate_index}
 
-pub record Ready (t : Transcript) (scalars : IndexScalars) (exons : List ℕ) : Type 0 where
+pub record Ready (t : Transcript) (index : LocateIndex) : Type 0 where
   pub admitted : admission t ≡ 0
-  pub scalars_are : scalars ≡ index_scalars (oriented t)
-  pub exons_are : ExonSums (oriented t) exons
+  pub indexed : index ≡ locate_index (oriented t)

@@ -1,13 +1,18 @@
 -- Distances that fit 32 bits, and the largest of these in place of one that does not.
-use Rattle.std.specs.Prelude.{ℕ, ◌<◌, ◌^◌, min, List, ◌∷◌, ◌++◌, ℤ, pos}
+use Rattle.std.specs.Prelude.{ℕ, ◌<◌, ◌^◌, min, List, ◌∷◌, ◌++◌, ℤ, pos, Result, Ok, Err}
+use Rattle.common.specs.declared.refusal.Refusal.{Refusal}
 use Rattle.footprint.specs.declared.Flank.{Flank}
-use Rattle.footprint.specs.declared.Flanked.{Flanked}
 use Rattle.locate.specs.declared.VariantLocation.{VariantLocation}
 use Rattle.locate.specs.declared.VariantLocation.TheVariants.{Upstream, Downstream, Distal, FivePrimeUtr, CdsExon, ThreePrimeUtr, SpliceDonor, SpliceAcceptor, SpliceRegion, Intron, FrameshiftIntron, NonCodingExon, NonCodingIntron}
-use Rattle.locate.specs.declared.Located.{Located}
 use Rattle.locate.specs.Numbers.{place_words}
-use Rattle.consequence.specs.declared.Called.{Called}
+use Rattle.consequence.specs.declared.ConsequenceResult.{ConsequenceResult}
+use Rattle.consequence.specs.Called.{Called}
 use Rattle.consequence.specs.Numbers.{column_words, called_words}
+
+-- an answer, if it is none of the refusals, is as said
+abbrev pub Answers : {A : Type 0} → (A → Type 0) → Result A Refusal → Type 0
+Answers Says (Ok x) = Says x
+Answers Says (Err r) = Unit
 
 -- the distance of a flank fits 32 bits
 abbrev pub NearFlank : Flank → Type 0
@@ -15,10 +20,6 @@ NearFlank Flank.Overlaps = Unit
 NearFlank (Flank.Upstream d) = d < 2 ^ 32
 NearFlank (Flank.Downstream d) = d < 2 ^ 32
 NearFlank Flank.Far = Unit
-
-abbrev pub NearFlanked : Flanked → Type 0
-NearFlanked (Flanked.Beside f) = NearFlank f
-NearFlanked (Flanked.Refused n) = Unit
 
 -- the distance of a place beside the transcript fits 32 bits
 abbrev pub Near : VariantLocation → Type 0
@@ -36,13 +37,8 @@ Near (FrameshiftIntron i d) = Unit
 Near (NonCodingExon i m) = Unit
 Near (NonCodingIntron i d) = Unit
 
-abbrev pub NearAt : Located → Type 0
-NearAt (Located.At place) = Near place
-NearAt (Located.Refused n) = Unit
-
-abbrev pub NearCalled : Called → Type 0
-NearCalled (Called.Answered a) = Near a.location
-NearCalled (Called.Refused n) = Unit
+abbrev pub NearResult : ConsequenceResult → Type 0
+NearResult a = Near a.location
 
 -- a distance as it is put
 abbrev pub capped : ℕ → ℕ
@@ -69,11 +65,11 @@ capped_place (FrameshiftIntron i d) = FrameshiftIntron i d
 capped_place (NonCodingExon i m) = NonCodingExon i m
 capped_place (NonCodingIntron i d) = NonCodingIntron i d
 
-abbrev pub capped_at : Located → Located
-capped_at (Located.At place) = Located.At (capped_place place)
-capped_at (Located.Refused n) = Located.Refused n
+abbrev pub capped_at : Result VariantLocation Refusal → Result VariantLocation Refusal
+capped_at (Ok place) = Ok (capped_place place)
+capped_at (Err r) = Err r
 
 -- the words of an answer whose distance is capped
 abbrev pub capped_words : Called → List ℤ
-capped_words (Called.Answered a) = pos 0 ∷ (place_words (capped_place a.location) ++ column_words a)
-capped_words (Called.Refused n) = called_words (Called.Refused n)
+capped_words (Ok a) = pos 0 ∷ (place_words (capped_place a.location) ++ column_words a)
+capped_words (Err r) = called_words (Err r)

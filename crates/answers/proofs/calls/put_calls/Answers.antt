@@ -1,51 +1,45 @@
-use Prim.Native.Nat.{ℕ, ◌+◌, ◌*◌, ◌≤◌, ◌<◌}
+use Prim.Native.Nat.{ℕ, ◌+◌, ◌*◌, ◌<◌}
 use mathlib.Core.Path.{◌≡◌, sym, ◌∙◌, ap}
 use mathlib.Core.List.{List}
 use native.Mathlib.Omega.{arith}
 use lib.ListN.{length, get_or}
 use lib.IntN.{ℤ}
 use lib.Seq.{sets}
-use Rattle.transcript.specs.Transcript.{Transcript, lent}
+use Rattle.transcript.specs.Transcript.{transcript_of}
 use Rattle.consequence.specs.declared.Call.{Call}
 use Rattle.consequence.specs.Window.{Window}
 use Rattle.consequence.specs.Call.{annotate_snv}
 use Rattle.words.proofs.WordLengths.{called_length}
 use Rattle.answers.specs.Calls.{snv, calls_of, call_words}
-use Rattle.answers.proofs.Blocks.{filled_to, filled_none, filled_length, filled_more, filled_all}
+use Rattle.answers.proofs.Blocks.{filled_to, filled_none, filled_more, filled_all}
 use Rattle.answers.proofs.CallList.{Even, fit_even, fit_room, calls_length, call_at}
 use Rattle.answers.proofs.calls.put_calls.Goals as goal
 use Rattle.answers.proofs.calls.put_calls.Goals.{Start}
-
-abbrev transcript : Start → Transcript
-transcript b = lent b.args.model b.args.exon_starts.now b.args.exon_ends.now b.args.seg_phases.now b.args.seg_exons.now b.args.seg_starts.now b.args.seg_ends.now b.args.selenocysteine.now
 
 abbrev window : Start → Window
 window b = record { chromosome = b.args.window_chromosome; first = b.args.window_first; bytes = b.args.window.now }
 
 abbrev words : Start → Call → List ℤ
-words b q = call_words b.args.ranges (transcript b) (window b) q
+words b q = call_words b.args.ranges (transcript_of b.args.transcript.now) (window b) q
 
 length_20 : (b : Start) (q : Call) → length (words b q) ≡ 20
-length_20 b q = called_length (annotate_snv b.args.ranges (transcript b) (window b) q)
+length_20 b q = called_length (annotate_snv b.args.ranges (transcript_of b.args.transcript.now) (window b) q)
 
 abbrev calls : Start → List Call
 calls b = calls_of b.args.chromosomes.now b.args.positions.now b.args.refs.now b.args.alts.now
 
 even : (b : Start) → Even b.args.chromosomes.now b.args.positions.now b.args.refs.now b.args.alts.now
-even b = fit_even b.args.chromosomes.now b.args.positions.now b.args.refs.now b.args.alts.now b.args.out.now b.requires.fact_3
+even b = fit_even b.args.chromosomes.now b.args.positions.now b.args.refs.now b.args.alts.now b.args.out.now b.requires.fits
 
 count : (b : Start) → length (calls b) ≡ length b.args.positions.now
 count b = calls_length b.args.chromosomes.now b.args.positions.now b.args.refs.now b.args.alts.now (even b)
 
 room : (b : Start) → length b.args.out.now ≡ 20 * length (calls b)
-room b = rw (count b) (fit_room b.args.chromosomes.now b.args.positions.now b.args.refs.now b.args.alts.now b.args.out.now b.requires.fact_3)
+room b = rw (count b) (fit_room b.args.chromosomes.now b.args.positions.now b.args.refs.now b.args.alts.now b.args.out.now b.requires.fits)
 
 -- the buffer while the first i calls are answered
 abbrev at : Start → ℕ → List ℤ
 at b i = filled_to (words b) 20 (calls b) b.args.out.now i
-
-long : (b : Start) (i : ℕ) → i ≤ length b.args.positions.now → length (at b i) ≡ length b.args.out.now
-long b i l = filled_length (words b) 20 (length_20 b) (calls b) b.args.out.now (room b) i (rw (count b) l)
 
 -- the call at i
 abbrev asked : Start → ℕ → Call
@@ -57,40 +51,23 @@ more b i l =
     ∙ filled_more (words b) 20 (length_20 b) (calls b) b.args.out.now (room b) i (snv 0 0 0 0) (rw (count b) l)
 
 pub loop-i-init : goal.loop-i-init
-loop-i-init c = (omega arith, filled_none (words (goal.at.loop-i-init c).Start) 20 (length_20 (goal.at.loop-i-init c).Start) (calls (goal.at.loop-i-init c).Start) c.args.out.now (room (goal.at.loop-i-init c).Start))
-
-pub overflow_mul-i : goal.overflow_mul-i
-overflow_mul-i c =
-    let e = room (goal.at.overflow_mul-i c).Start in
-    let k = count (goal.at.overflow_mul-i c).Start in
-    let g = c.well_formed.1.1.1.1.1.1.1.1.1.1.1.1.1.1.1.1.1.1.1.1.1.0 in
-    record { fits = omega arith }
-
-pub put_snv-requires : goal.put_snv-requires
-put_snv-requires c =
-    let l = c.loop-i in
-    let k = ap length l.invariant.1 ∙ long (goal.at.put_snv-requires c).Start l.i l.invariant.0 in
-    let e = room (goal.at.put_snv-requires c).Start in
-    let m = count (goal.at.put_snv-requires c).Start in
-    record { fact_1 = c.requires.fact_1; fact_2 = c.requires.fact_4; fact_3 = c.requires.fact_2; fact_4 = omega arith }
-
-pub overflow_add-i : goal.overflow_add-i
-overflow_add-i c = let g = c.well_formed.1.1.1.1.1.1.0 in record { fits = omega arith }
+loop-i-init c =
+    let b = (goal.at.loop-i-init c).Start in
+    (omega arith, filled_none (words b) 20 (length_20 b) (calls b) c.args.out.now (room b))
 
 pub loop-i-preserved : goal.loop-i-preserved
 loop-i-preserved c =
+    let b = (goal.at.loop-i-preserved c).Start in
     let l = c.loop-i in (
       omega arith,
       c.put_snv.ensures
-          ∙ ap (λ (o : List ℤ). sets o (20 * l.i) (words (goal.at.loop-i-preserved c).Start (asked (goal.at.loop-i-preserved c).Start l.i))) l.invariant.1
-          ∙ more (goal.at.loop-i-preserved c).Start l.i (omega arith),
+          ∙ ap (λ (o : List ℤ). sets o (20 * l.i) (words b (asked b l.i))) l.invariant.1
+          ∙ more b l.i (omega arith),
     )
-
-pub shape_of-out : goal.shape_of-out
-shape_of-out c = let l = c.loop-i in ap length l.invariant.1 ∙ long (goal.at.shape_of-out c).Start l.i l.invariant.0
 
 pub returns : goal.returns
 returns c =
+    let b = (goal.at.returns c).Start in
     let l = c.loop-i in
-    let n = count (goal.at.returns c).Start in
-    l.invariant.1 ∙ filled_all (words (goal.at.returns c).Start) 20 (length_20 (goal.at.returns c).Start) (calls (goal.at.returns c).Start) c.args.out.now (room (goal.at.returns c).Start) l.i (omega arith)
+    let n = count b in
+    l.invariant.1 ∙ filled_all (words b) 20 (length_20 b) (calls b) c.args.out.now (room b) l.i (omega arith)

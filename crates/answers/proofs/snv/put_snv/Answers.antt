@@ -1,85 +1,98 @@
 -- The words of a refusal, of a coding base, or of the answer at another place.
-use Prim.Native.Nat.{◌≤◌}
+use Prim.Native.Nat.{ℕ, ◌≤◌}
 use mathlib.Core.Path.{◌≡◌, refl, sym, ◌∙◌, ap}
 use mathlib.Core.List.{List}
-use native.Mathlib.Omega.{arith}
 use lib.IntN.{ℤ}
 use lib.Seq.{sets}
-use Rattle.transcript.specs.Limits.{top, query_limit}
-use Rattle.transcript.specs.Transcript.{Transcript, lent}
+use Rattle.std.specs.Prelude.{Result, Ok}
+use Rattle.common.specs.declared.refusal.Refusal.{Refusal}
+use Rattle.common.specs.Refusal.{outcome}
+use Rattle.common.proofs.Outcome.{was_answered}
+use Rattle.transcript.specs.Limits.{top}
+use Rattle.transcript.specs.Transcript.{Transcript, transcript_of}
+use Rattle.transcript.specs.Orient.{orient_base}
 use Rattle.transcript.proofs.Asking.{base_low}
-use Rattle.consequence.specs.declared.Called.{Called}
+use Rattle.consequence.specs.Called.{Called}
 use Rattle.consequence.specs.Window.{Window}
 use Rattle.consequence.specs.Call.{opening_refusal}
 use Rattle.consequence.specs.Numbers.{called_words}
 use Rattle.consequence.proofs.Refusals.{opening_within}
 use Rattle.consequence.proofs.Calling.{refused, answered}
-use Rattle.words.specs.code.Near.{NearCalled}
+use Rattle.words.specs.code.Near.{Answers, NearResult}
 use Rattle.words.proofs.Capping.{called_fits}
-use Rattle.answers.proofs.CallRefused.{near_called}
+use Rattle.answers.proofs.NearCalls.{near_called}
+use Rattle.answers.proofs.Indexed.{prepared}
 use Rattle.answers.proofs.snv.put_snv.Goals as goal
-use Rattle.answers.proofs.snv.put_snv.Goals.{After-base_of-p, Else-refusal-ne0, Start}
-
-abbrev back1 : Else-refusal-ne0 → Start
-back1 c = c.before.before.before.before.before.before.before.before.before.before.before.before.before.before
-
-abbrev back2 : After-base_of-p → Else-refusal-ne0
-back2 c = record { before = c.before.before; type_inv = record { cumulative_cds = c.type_inv.cumulative_cds; cumulative_exons = c.type_inv.cumulative_exons; selenocysteine = c.type_inv.selenocysteine; seg_ends = c.type_inv.seg_ends; seg_starts = c.type_inv.seg_starts; seg_exons = c.type_inv.seg_exons; seg_phases = c.type_inv.seg_phases; exon_ends = c.type_inv.exon_ends; exon_starts = c.type_inv.exon_starts; window = c.type_inv.window; letters = c.type_inv.letters } }
+use Rattle.answers.proofs.snv.put_snv.Goals.{Start}
 
 abbrev transcript : Start → Transcript
-transcript b = lent b.args.model b.args.exon_starts.now b.args.exon_ends.now b.args.seg_phases.now b.args.seg_exons.now b.args.seg_starts.now b.args.seg_ends.now b.args.selenocysteine.now
+transcript b = transcript_of b.args.transcript.now
 
 abbrev window : Start → Window
 window b = record { chromosome = b.args.window_chromosome; first = b.args.window_first; bytes = b.args.window.now }
 
--- where the call was asked
-abbrev start : Else-refusal-ne0 → Start
-start c = (back1 c)
+abbrev opening : Start → ℕ
+opening b = opening_refusal (transcript b) (window b) b.args.call
 
 -- past the first refusals
-opened : (c : Else-refusal-ne0) → opening_refusal (transcript (start c)) (window (start c)) (start c).args.call ≡ 0
-opened c = sym (c.opening_refusal-refusal.ensures (transcript (start c)) (start c).requires.fact_1.admitted refl) ∙ c.if-refusal-ne0.false
+opened : (b : Start) (r : Result (Unit {0}) Refusal) (u : Unit {0}) → r ≡ outcome (opening b) tt → r ≡ Ok u → opening b ≡ 0
+opened b r u e o = was_answered tt (opening b) u (sym e ∙ o)
 
-within : (c : Else-refusal-ne0) → (start c).args.call.position ≤ query_limit
-within c = opening_within (transcript (start c)) (window (start c)) (start c).args.call (start c).requires.fact_1.admitted (opened c)
-
-low : (c : After-base_of-p) → c.base_of-p.result ≤ top
-low c = let b = start (back2 c) in rw c.base_of-p.ensures (base_low b.args.model.strand b.args.call.position (within (back2 c)))
+low : (b : Start) (p : ℕ) → p ≡ orient_base b.args.transcript.now.model.strand b.args.call.position → opening b ≡ 0 → p ≤ top
+low b p e h = rw e (base_low b.args.transcript.now.model.strand b.args.call.position (opening_within (transcript b) (window b) b.args.call b.requires.ready.admitted h))
 
 -- the buffer with an answer
 abbrev left : Start → Called → List ℤ
 left b x = sets b.args.out.now b.args.at (called_words x)
 
-pub returns-then-refusal-ne0 : goal.returns-then-refusal-ne0
-returns-then-refusal-ne0 c =
-    let r = c.opening_refusal-refusal in
+pub returns-in-Err : goal.returns-in-Err
+returns-in-Err c =
+    let b = (goal.at.returns-in-Err c).Start in
+    let r = c.judge_opening-opening in
     c.put_refusal.ensures
-    ∙ ap (left (goal.at.returns-then-refusal-ne0 c).Start) (refused c.args.ranges (transcript (goal.at.returns-then-refusal-ne0 c).Start) (window (goal.at.returns-then-refusal-ne0 c).Start) c.args.call r.result (omega arith) (sym (r.ensures (transcript (goal.at.returns-then-refusal-ne0 c).Start) c.requires.fact_1.admitted refl)))
+    ∙ ap (left b) (refused c.args.ranges (transcript b) (window b) c.args.call c.in-Err.refusal (sym (r.ensures (transcript b) c.requires.ready.admitted refl) ∙ c.in-Err.is))
 
-pub place_by_order-place-requires : goal.place_by_order-place-requires
-place_by_order-place-requires c =
-    let h = c.requires.fact_1 in
-    (record { admitted = h.admitted; scalars_are = h.scalars_are; exons_are = h.exons_are }, low (goal.at.place_by_order-place-requires c).After-base_of-p)
+pub place_by_order-place-requires-clause-low : goal.place_by_order-place-requires-clause-low
+place_by_order-place-requires-clause-low c =
+    let b = (goal.at.place_by_order-place-requires-clause-low c).Start in
+    let r = c.judge_opening-opening in
+    low b c.base_of-p.result c.base_of-p.ensures (opened b r.result c.in_default.field-0 (r.ensures (transcript b) c.requires.ready.admitted refl) c.in_default.is)
 
-pub put_cds_snv-requires : goal.put_cds_snv-requires
-put_cds_snv-requires c =
-    record { fact_1 = c.requires.fact_1; fact_2 = sym c.in-CdsExon.is ∙ c.place_by_order-place.ensures; fact_3 = c.requires.fact_2; fact_4 = low (goal.at.put_cds_snv-requires c).After-base_of-p; fact_5 = c.requires.fact_4 }
+pub put_cds_snv-requires-clause-low : goal.put_cds_snv-requires-clause-low
+put_cds_snv-requires-clause-low c =
+    let b = (goal.at.put_cds_snv-requires-clause-low c).Start in
+    let r = c.judge_opening-opening in
+    low b c.base_of-p.result c.base_of-p.ensures (opened b r.result c.in_default.field-0 (r.ensures (transcript b) c.requires.ready.admitted refl) c.in_default.is)
 
 pub returns-in-CdsExon : goal.returns-in-CdsExon
 returns-in-CdsExon c =
+    let b = (goal.at.returns-in-CdsExon c).Start in
+    let r = c.judge_opening-opening in
     let p = c.base_of-p in
-    let h = c.place_by_order-place in
+    let o = opened b r.result c.in_default.field-0 (r.ensures (transcript b) c.requires.ready.admitted refl) c.in_default.is in
     c.put_cds_snv.ensures
-    ∙ ap (left (goal.at.returns-in-CdsExon c).Start) (answered c.args.ranges (transcript (goal.at.returns-in-CdsExon c).Start) (window (goal.at.returns-in-CdsExon c).Start) c.args.call (opened (goal.at.returns-in-CdsExon c).Else-refusal-ne0) p.result p.ensures _ (sym c.in-CdsExon.is ∙ h.ensures) _ refl _ refl)
+    ∙ ap (left b) (answered c.args.ranges (transcript b) (window b) c.args.call o p.result p.ensures _ (sym c.in-CdsExon.is ∙ c.place_by_order-place.ensures) _ refl _ refl)
 
 pub annotate_placed-called-requires : goal.annotate_placed-called-requires
-annotate_placed-called-requires c = record { fact_1 = c.requires.fact_1; fact_2 = c.place_by_order-place.ensures; fact_3 = c.requires.fact_2; fact_4 = low (goal.at.annotate_placed-called-requires c).After-base_of-p }
+annotate_placed-called-requires c =
+    let b = (goal.at.annotate_placed-called-requires c).Start in
+    let r = c.judge_opening-opening in
+    let o = opened b r.result c.in_default.field-0 (r.ensures (transcript b) c.requires.ready.admitted refl) c.in_default.is in
+    record {
+      prepared = prepared c.args.transcript.now c.args.index.now c.requires.ready;
+      located = c.place_by_order-place.ensures;
+      letters = c.requires.letters;
+      low = low b c.base_of-p.result c.base_of-p.ensures o;
+    }
 
 pub returns : goal.returns
 returns c =
+    let b = (goal.at.returns c).Start in
+    let r = c.judge_opening-opening in
     let p = c.base_of-p in
     let h = c.place_by_order-place in
     let x = c.annotate_placed-called in
-    let e = x.ensures ∙ answered c.args.ranges (transcript (goal.at.returns c).Start) (window (goal.at.returns c).Start) c.args.call (opened (goal.at.returns c).Else-refusal-ne0) p.result p.ensures h.result h.ensures _ refl _ refl in
-    let n : NearCalled x.result = rw e (near_called c.args.ranges (transcript (goal.at.returns c).Start) (window (goal.at.returns c).Start) c.args.call c.requires.fact_3) in
-    c.put_called.ensures ∙ called_fits c.args.out.now c.args.at x.result c.requires.fact_4 n ∙ ap (left (goal.at.returns c).Start) e
+    let o = opened b r.result c.in_default.field-0 (r.ensures (transcript b) c.requires.ready.admitted refl) c.in_default.is in
+    let e = x.ensures ∙ answered c.args.ranges (transcript b) (window b) c.args.call o p.result p.ensures h.result h.ensures _ refl _ refl in
+    let near : Answers NearResult x.result = rw e (near_called c.args.ranges (transcript b) (window b) c.args.call c.requires.near) in
+    c.put_called.ensures ∙ called_fits c.args.out.now c.args.at x.result c.requires.room near ∙ ap (left b) e

@@ -1,6 +1,0 @@
-use mathlib.Core.Path.{◌∙◌, ap}
-use Rattle.interface.specs.Decks.{content_outcome}
-use Rattle.interface.proofs.decks.vareffect_deck_ids.Goals as goal
-
-pub returns : goal.returns
-returns c = record { value = c.content_outcome.ensures ∙ ap content_outcome c.deck_ids.ensures.value; ids_after = c.deck_ids.ensures.ids_after }
