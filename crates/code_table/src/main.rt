@@ -28,18 +28,12 @@ fn codon_at(rows: &[u8; 384], i: usize) -> Codon
     }
 }
 
-fn same_codon(a: Codon, b: Codon) -> bool {
-    a.first == b.first && a.second == b.second && a.third == b.third
-}
-
 // The letter published for a codon, `?` where no row has it.
 fn published_letter(rows: &[u8; 384], c: Codon) -> u8 {
-    let mut i = 0;
-    while i < 64 {
-        if same_codon(codon_at(rows, i), c) {
+    for i in 0..64 {
+        if codon_at(rows, i) == c {
             return rows[i * 6 + 4];
         }
-        i += 1;
     }
     b'?'
 }
@@ -103,10 +97,8 @@ fn codon_differences(rt: &impl Print, rows: &[u8; 384], code: GeneticCode, n: us
     requires { n ≤ 64 }
 {
     let mut count: u64 = 0;
-    let mut i = 0;
-    while i < n {
+    for i in 0..n {
         count += codon_differs(rt, rows, code, i);
-        i += 1;
     }
     count
 }
@@ -116,10 +108,12 @@ fn altered_differences(rt: &impl Print, rows: &[u8; 384], code: GeneticCode, n: 
     requires { n ≤ 64 }
 {
     let mut count: u64 = 0;
-    let mut k = 0;
-    while k < n * 12 {
-        count += altered_differs(rt, rows, code, k / 12, (k / 4 % 3) as u8, BASES[k % 4]);
-        k += 1;
+    for i in 0..n {
+        for place in 0..3 {
+            for base in BASES {
+                count += altered_differs(rt, rows, code, i, place, base);
+            }
+        }
     }
     count
 }

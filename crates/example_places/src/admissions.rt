@@ -1,104 +1,125 @@
 // Transcripts that are admitted, and one that is refused by each of 1 to 13.
 use crate::text::{print, refused};
-use crate::transcripts::{T1, TwoExons, coding};
-use transcript::{Admission, CdsBounds, Strand, admit};
+use crate::transcripts::T1;
+use transcript::{CdsBounds, CdsSegments, Intervals, Strand, Transcript, TranscriptModel, admit};
 
-// The line of the transcript with these segment ends and selenocysteine bases.
-fn admission(rt: &impl Print, x: TwoExons, seg_ends: &[u64], selenocysteine: &[u64]) {
-    let starts = x.exon_starts;
-    let ends = x.exon_ends;
-    let phases = x.phases;
-    let exons = x.seg_exons;
-    let seg_starts = x.seg_starts;
-    let admitted = admit(
-        coding(x),
-        &starts,
-        &ends,
-        &phases,
-        &exons,
-        &seg_starts,
-        seg_ends,
-        selenocysteine,
-    );
-    match admitted {
-        Admission::Admitted => print(rt, b"admitted"),
-        Admission::Refused(n) => refused(rt, n),
+// The line of a transcript.
+fn line(rt: &impl Print, x: Transcript) {
+    match admit(&x) {
+        Ok(()) => print(rt, b"admitted"),
+        Err(refusal) => refused(rt, refusal),
     }
     print(rt, b"\n");
 }
 
-// The line of the transcript with its own segment ends and no selenocysteine.
-fn plain(rt: &impl Print, x: TwoExons) {
-    let seg_ends = x.seg_ends;
-    admission(rt, x, &seg_ends, &[]);
+fn model(rt: &impl Print, model: TranscriptModel) {
+    line(rt, Transcript { model, ..T1 });
 }
 
-fn first_phase(rt: &impl Print, phase: u8) {
-    plain(
+fn segments(rt: &impl Print, segments: CdsSegments) {
+    line(rt, Transcript { segments, ..T1 });
+}
+
+// T1 with CDS segments of these starts and ends, and these selenocysteine bases.
+fn coding(rt: &impl Print, starts: &[u64], ends: &[u64], selenocysteine: &[u64]) {
+    let segments = CdsSegments {
+        bases: Intervals { starts, ends },
+        ..T1.segments
+    };
+    line(
         rt,
-        TwoExons {
-            phases: [phase, 1],
+        Transcript {
+            segments,
+            selenocysteine,
             ..T1
         },
     );
 }
 
-fn second_segment(rt: &impl Print, exon: u16) {
-    plain(
+fn phases(rt: &impl Print, phases: &[u8]) {
+    segments(
         rt,
-        TwoExons {
-            seg_exons: [0, exon],
-            ..T1
+        CdsSegments {
+            phases,
+            ..T1.segments
         },
     );
 }
 
-fn cds_bounds(rt: &impl Print, cds: CdsBounds) {
-    plain(rt, TwoExons { cds, ..T1 });
+fn exon_indexes(rt: &impl Print, exon_indexes: &[u16]) {
+    segments(
+        rt,
+        CdsSegments {
+            exon_indexes,
+            ..T1.segments
+        },
+    );
 }
 
-fn both(start: u64, end: u64) -> CdsBounds {
-    CdsBounds::Both {
-        cds_genomic_start: start,
-        cds_genomic_end: end,
+fn cds(rt: &impl Print, cds: Option<CdsBounds>) {
+    model(rt, TranscriptModel { cds, ..T1.model });
+}
+
+fn bounds(rt: &impl Print, cds_genomic_start: u64, cds_genomic_end: u64) {
+    cds(
+        rt,
+        Some(CdsBounds {
+            cds_genomic_start,
+            cds_genomic_end,
+        }),
+    );
+}
+
+// T1 on the other strand, with a first phase of 2 and a selenocysteine base.
+fn minus() -> Transcript<'static> {
+    Transcript {
+        model: TranscriptModel {
+            strand: Strand::Minus,
+            cds_start_complete: false,
+            ..T1.model
+        },
+        exons: Intervals {
+            starts: &[160, 100],
+            ends: &[190, 130],
+        },
+        segments: CdsSegments {
+            phases: &[2, 1],
+            exon_indexes: &[0, 1],
+            bases: Intervals {
+                starts: &[160, 110],
+                ends: &[170, 130],
+            },
+        },
+        selenocysteine: &[169],
     }
 }
 
 pub(crate) fn show(rt: &impl Print) {
-    admission(rt, T1, &[130, 170], &[111]);
-    admission(rt, T1, &[130], &[]);
-    plain(
+    coding(rt, &[110, 160], &[130, 170], &[111]);
+    coding(rt, &[110, 160], &[130], &[]);
+    coding(rt, &[110, 170], &[130, 170], &[]);
+    model(
         rt,
-        TwoExons {
-            seg_starts: [110, 170],
-            ..T1
-        },
-    );
-    plain(
-        rt,
-        TwoExons {
+        TranscriptModel {
             strand: Strand::Minus,
-            ..T1
+            ..T1.model
         },
     );
-    plain(rt, TwoExons { tx_end: 191, ..T1 });
-    cds_bounds(rt, CdsBounds::Neither);
-    first_phase(rt, 3);
-    first_phase(rt, 1);
-    second_segment(rt, 2);
-    second_segment(rt, 0);
-    cds_bounds(rt, both(99, 170));
-    cds_bounds(rt, both(110, 160));
-    admission(rt, T1, &[130, 171], &[]);
-    admission(rt, T1, &[130, 170], &[130]);
-    let minus = TwoExons {
-        strand: Strand::Minus,
-        complete: false,
-        exon_starts: [160, 100],
-        exon_ends: [190, 130],
-        phases: [2, 1],
-        seg_starts: [160, 110],
-        ..T1
-    };
-    admission(rt, minus, &[170, 130], &[169]);
+    model(
+        rt,
+        TranscriptModel {
+            tx_end: 191,
+            ..T1.model
+        },
+    );
+    cds(rt, None);
+    phases(rt, &[3, 1]);
+    phases(rt, &[1, 1]);
+    exon_indexes(rt, &[0, 2]);
+    exon_indexes(rt, &[0, 0]);
+    bounds(rt, 99, 170);
+    bounds(rt, 110, 160);
+    coding(rt, &[110, 160], &[130, 171], &[]);
+    coding(rt, &[110, 160], &[130, 170], &[130]);
+    line(rt, minus());
 }

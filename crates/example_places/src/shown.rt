@@ -1,6 +1,7 @@
 // A place and a flank as text.
 use crate::text::{number, print, refused, signed};
-use footprint::{Flank, Flanked};
+use common::refusal::Refusal;
+use footprint::Flank;
 use locate::VariantLocation;
 
 // A name with a count.
@@ -72,18 +73,13 @@ pub(crate) fn show_place(rt: &impl Print, place: VariantLocation) {
     }
 }
 
-pub(crate) fn show_flanked(rt: &impl Print, flanked: Flanked) {
-    match flanked {
-        Flanked::Beside(flank) => show_flank(rt, flank),
-        Flanked::Refused(n) => refused(rt, n),
-    }
-}
-
-fn show_flank(rt: &impl Print, flank: Flank) {
+// The flank's name with its distance, or the refusal.
+pub(crate) fn show_flank(rt: &impl Print, flank: Result<Flank, Refusal>) {
     match flank {
-        Flank::Overlaps => print(rt, b"Overlaps"),
-        Flank::Upstream(d) => counted(rt, b"Upstream", d),
-        Flank::Downstream(d) => counted(rt, b"Downstream", d),
-        Flank::Far => print(rt, b"Far"),
+        Ok(Flank::Overlaps) => print(rt, b"Overlaps"),
+        Ok(Flank::Upstream(d)) => counted(rt, b"Upstream", d),
+        Ok(Flank::Downstream(d)) => counted(rt, b"Downstream", d),
+        Ok(Flank::Far) => print(rt, b"Far"),
+        Err(refusal) => refused(rt, refusal),
     }
 }

@@ -1,6 +1,5 @@
 // Words and numbers on standard output.
-ghost use Rattle.std.specs.Prelude.{◌≡◌, nat_abs};
-
+use common::refusal::Refusal;
 use console::print_decimal;
 use transcript::Strand;
 
@@ -17,25 +16,15 @@ pub(crate) fn number(rt: &impl Print, n: u64) {
     decimal(rt, n);
 }
 
-fn magnitude(n: i64) -> u64
-    ensures { result ≡ nat_abs n }
-{
-    if n < 0 { (-1 - n) as u64 + 1 } else { n as u64 }
-}
-
 // A number with its sign, + for 0.
 pub(crate) fn signed(rt: &impl Print, n: i64) {
-    if n < 0 {
-        print(rt, b" -");
-    } else {
-        print(rt, b" +");
-    }
-    decimal(rt, magnitude(n));
+    print(rt, if n < 0 { b" -" } else { b" +" });
+    decimal(rt, n.unsigned_abs());
 }
 
-pub(crate) fn refused(rt: &impl Print, n: u8) {
+pub(crate) fn refused(rt: &impl Print, refusal: Refusal) {
     print(rt, b"refused");
-    number(rt, n as u64);
+    number(rt, u64::from(u8::from(refusal)));
 }
 
 pub(crate) fn strand_word(rt: &impl Print, strand: Strand) {

@@ -1,18 +1,11 @@
 // Reading files. What cannot be read is said on standard error, and reads as empty.
-ghost use Rattle.std.specs.Prelude.{◌-◌, ◌≤◌, ◌≡◌, length, IfOk};
+ghost use Rattle.std.specs.Prelude.{◌-◌, ◌≤◌, length, IfOk};
 ghost use Rattle.console.specs.Counts.{IsPrefixLen};
 
 use crate::write::say_failed;
 use std::io::Read;
 use std::rt::Files;
 use std::{fs, io, str};
-
-// Room for one byte more than a file may have, so that a longer one is seen.
-pub(crate) fn room() -> [u8; 65537]
-    ensures { 65537 ≡ length result }
-{
-    [0; 65537]
-}
 
 // One read, to `into` from `at` on.
 fn read_at(from: &mut impl Read, into: &mut [u8], at: usize) -> io::Result<usize>

@@ -1,38 +1,9 @@
 // What `--help` prints.
 use crate::write::write_all;
 
-// Whether a word asks for help: `--help` or `-h`.
+// Whether a word asks for help.
 pub(crate) fn is_help(word: &[u8]) -> bool {
-    if word.len() == 2 {
-        return starts_help(word);
-    }
-    if word.len() != 6 {
-        return false;
-    }
-    if !starts_help(&word[1..]) {
-        return false;
-    }
-    if word[0] != b'-' {
-        return false;
-    }
-    if word[3] != b'e' {
-        return false;
-    }
-    if word[4] != b'l' {
-        return false;
-    }
-    word[5] == b'p'
-}
-
-// Whether a word begins with `-h`.
-fn starts_help(word: &[u8]) -> bool {
-    if word.len() < 2 {
-        return false;
-    }
-    if word[0] != b'-' {
-        return false;
-    }
-    word[1] == b'h'
+    matches!(word, b"--help" | b"-h")
 }
 
 // What it reads and prints.
@@ -116,9 +87,7 @@ A call is refused by\n\
 
 // Prints all of it. After a write that failed nothing more is written.
 pub(crate) fn print(to: &impl Print, errors: &impl Print, name: &[u8]) {
-    if print_usage(to, errors, name) {
-        if print_deck(to, errors, name) {
-            print_calls(to, errors, name);
-        }
-    }
+    let _ = print_usage(to, errors, name)
+        && print_deck(to, errors, name)
+        && print_calls(to, errors, name);
 }

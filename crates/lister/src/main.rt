@@ -10,14 +10,15 @@ mod write;
 ghost use Rattle.std.specs.Prelude.{◌≤◌, length};
 
 use console::buffer;
-use files::{read_file, read_to_end, room};
+use files::{read_file, read_to_end};
 use printing::print_listing;
 use std::env::{Env, FillError};
 
+// The rooms have a byte more than a file may have, so that a longer one is seen.
 fn list(rt: &HostRuntime, deck_name: &[u8], window_name: &[u8]) {
-    let mut deck = room();
-    let mut window = room();
-    let mut calls = room();
+    let mut deck = buffer::<65537>();
+    let mut window = buffer::<65537>();
+    let mut calls = buffer::<65537>();
     let errors = rt.stderr();
     let d = read_file(rt, &errors, deck_name, &mut deck);
     let w = read_file(rt, &errors, window_name, &mut window);
@@ -27,11 +28,7 @@ fn list(rt: &HostRuntime, deck_name: &[u8], window_name: &[u8]) {
 
 // Whether an argument of that number was given.
 fn is_given(rt: &impl Env, i: usize) -> bool {
-    match rt.arg(i, &mut buffer()) {
-        Ok(_) => true,
-        Err(FillError::TooLong) => true,
-        Err(FillError::NotPresent) => false,
-    }
+    !matches!(rt.arg(i, &mut buffer::<4096>()), Err(FillError::NotPresent))
 }
 
 // The argument of that number at the start of `into`, and its length: 0 where it is missing or too long.
@@ -46,7 +43,7 @@ fn main(rt: HostRuntime) {
         list(&rt, b"deck.bin", b"window.bin");
         return;
     }
-    let mut first = buffer();
+    let mut first = buffer::<4096>();
     let n = argument(&rt, 1, &mut first);
     if help::is_help(&first[..n]) {
         help::print(&rt.stdout(), &rt.stderr(), b"standard output");
@@ -56,7 +53,7 @@ fn main(rt: HostRuntime) {
         help::print(&rt.stderr(), &rt.stderr(), b"standard error");
         return;
     }
-    let mut second = buffer();
+    let mut second = buffer::<4096>();
     let m = argument(&rt, 2, &mut second);
     list(&rt, &first[..n], &second[..m]);
 }

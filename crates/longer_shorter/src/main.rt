@@ -3,11 +3,10 @@
 // chromosome 25, where ATA reads M, AGA is a stop and TGA is none.
 #![tactic(auto)]
 
-use consequence::{Call, Called, annotate_snv};
-use lines::Written;
-use lines::answer::write_answer;
-use lines::line::write_refusal;
-use transcript::{CdsBounds, Strand, TranscriptModel};
+use consequence::{Call, annotate_snv};
+use console::print;
+use lines::write_called;
+use transcript::{CdsBounds, CdsSegments, Intervals, Strand, Transcript, TranscriptModel};
 
 // The chromosome of two transcripts and their ids.
 #[derive(Clone, Copy)]
@@ -31,87 +30,58 @@ fn model(id: u32, chromosome: u16, exon_count: u16, tx_start: u64, tx_end: u64) 
         exon_count,
         tx_start,
         tx_end,
-        cds: CdsBounds::Both {
+        cds: Some(CdsBounds {
             cds_genomic_start: 110,
             cds_genomic_end: 170,
-        },
+        }),
         cds_start_complete: true,
     }
 }
 
-// Its answer. The segments, of phases 0 and 1, lie in the exons of these indices.
-fn ask(
-    call: Call,
-    model: TranscriptModel,
-    exon_starts: &[u64],
-    exon_ends: &[u64],
-    exons: &[u16],
-) -> Called {
-    let window = WINDOW;
-    let phases = [0u8, 1];
-    let seg_starts = [110u64, 160];
-    let seg_ends = [130u64, 170];
-    let none = [0u64; 1];
-    annotate_snv(
-        model.chromosome,
-        100,
-        &window,
-        call,
-        model,
-        exon_starts,
-        exon_ends,
-        &phases,
-        exons,
-        &seg_starts,
-        &seg_ends,
-        &none[..0],
-    )
+// Its segments, of phases 0 and 1, in the exons of these indices.
+fn segments(exon_indexes: &[u16]) -> CdsSegments<'_> {
+    CdsSegments {
+        phases: &[0, 1],
+        exon_indexes,
+        bases: Intervals {
+            starts: &[110, 160],
+            ends: &[130, 170],
+        },
+    }
 }
 
-// Document 01's T1, on the call's chromosome: exons [100,130) and [160,190).
-fn shorter(id: u32, call: Call) -> Called {
-    let starts = [100u64, 160];
-    let ends = [130u64, 190];
-    let exons = [0u16, 1];
-    let model = model(id, call.chromosome, 2, 100, 190);
-    ask(call, model, &starts, &ends, &exons)
+// Document 01's T1, on a chromosome of its own: exons [100,130) and [160,190).
+fn shorter(id: u32, chromosome: u16) -> Transcript<'static> {
+    Transcript {
+        model: model(id, chromosome, 2, 100, 190),
+        exons: Intervals {
+            starts: &[100, 160],
+            ends: &[130, 190],
+        },
+        segments: segments(&[0, 1]),
+        selenocysteine: &[],
+    }
 }
 
 // The same with exons [50,80) and [215,230) added.
-fn longer(id: u32, call: Call) -> Called {
-    let starts = [50u64, 100, 160, 215];
-    let ends = [80u64, 130, 190, 230];
-    let exons = [1u16, 2];
-    let model = model(id, call.chromosome, 4, 50, 230);
-    ask(call, model, &starts, &ends, &exons)
-}
-
-// How many bytes were written.
-fn length_of(w: Written) -> usize {
-    match w {
-        Written::Bytes(n) => n,
-        Written::Refused(k) => 0,
+fn longer(id: u32, chromosome: u16) -> Transcript<'static> {
+    Transcript {
+        model: model(id, chromosome, 4, 50, 230),
+        exons: Intervals {
+            starts: &[50, 100, 160, 215],
+            ends: &[80, 130, 190, 230],
+        },
+        segments: segments(&[1, 2]),
+        selenocysteine: &[],
     }
 }
 
-fn print(rt: &impl Print, out: &[u8], n: usize) {
-    if n <= out.len() {
-        console::print(rt, &out[..n]);
-    }
-}
-
-// The line of an answer.
-fn show(rt: &impl Print, number: u64, id: u32, called: Called) {
+// The line of a transcript's answer to a call on its chromosome.
+fn show(rt: &impl Print, number: u64, transcript: &Transcript, call: Call) {
+    let called = annotate_snv(call.chromosome, 100, &WINDOW, call, transcript);
     let mut out = [0u8; 256];
-    match called {
-        Called::Answered(a) => {
-            let w = write_answer(&mut out, number, id as u64, a);
-            print(rt, &out, length_of(w));
-        }
-        Called::Refused(n) => {
-            let w = write_refusal(&mut out, number, id as u64, n as u64);
-            print(rt, &out, length_of(w));
-        }
+    if let Ok(n) = write_called(&mut out, number, transcript.model.id, called) {
+        print(rt, &out[..n]);
     }
 }
 
@@ -123,8 +93,8 @@ fn compare(rt: &impl Print, pair: Pair, number: u64, position: u64, ref_base: u8
         ref_base,
         alt_base,
     };
-    show(rt, number, pair.shorter, shorter(pair.shorter, call));
-    show(rt, number, pair.longer, longer(pair.longer, call));
+    show(rt, number, &shorter(pair.shorter, pair.chromosome), call);
+    show(rt, number, &longer(pair.longer, pair.chromosome), call);
 }
 
 fn main(rt: HostRuntime) {

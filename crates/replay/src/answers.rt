@@ -1,134 +1,113 @@
-// A block behind its kind: a transcript, then answers, each held against the port's. `starts` and `ends` are those of the exons;
-// `phases`, `hosts` (their exons), `froms` and `tos` those of the segments; `bases` those of selenocysteine.
-ghost use Rattle.std.specs.Prelude.{◌≤◌};
+// A block behind its kind: a transcript, then answers, each held against the port's.
+ghost use Rattle.std.specs.Prelude.{ℕ, ◌≤◌, ◌<◌, length};
 
-use crate::counts::{Counts, report};
+use crate::counts::{Counts, Kind, report};
 use crate::layout::{Answers, answers_of};
-use crate::numbers::u32_at;
-use crate::transcripts::{halves, head_of, octets, words};
+use crate::numbers::{byte_at, u16_at, u32_at};
+use crate::transcripts::head_of;
 use crate::{asking, calling, index, placing};
-use transcript::TranscriptModel;
+use transcript::{CdsSegments, Intervals, Transcript};
 
 // Whether the answer at p is the port's.
-fn is_same(
-    b: &[u8],
-    p: usize,
-    a: Answers,
-    t: TranscriptModel,
-    starts: &[u64],
-    ends: &[u64],
-    phases: &[u8],
-    hosts: &[u16],
-    froms: &[u64],
-    tos: &[u64],
-    bases: &[u64],
-) -> bool
+fn is_same(b: &[u8], p: usize, a: Answers, transcript: &Transcript) -> bool
     requires { (p ≤ 700000) × (a.at ≤ 12000) }
 {
     let at = a.at;
-    let kind = a.kind;
-    match kind {
-        0 => index::is_same(b, at, t, starts, ends, phases, hosts, froms, tos, bases),
-        1 => placing::is_same(b, p, t, starts, ends, phases, hosts, froms, tos, bases),
-        2 => asking::is_same(b, p, t, starts, ends, phases, hosts, froms, tos, bases),
-        _ => calling::is_same(b, p, at, t, starts, ends, phases, hosts, froms, tos, bases),
+    match a.kind {
+        Kind::Transcripts => index::is_same(b, at, transcript),
+        Kind::Places => placing::is_same(b, p, transcript),
+        Kind::Intervals => asking::is_same(b, p, transcript),
+        Kind::Calls => calling::is_same(b, p, at, transcript),
     }
 }
 
 // 1 where the answer at p differs, which is then written, else 0.
-fn differs(
-    rt: &impl Print,
-    b: &[u8],
-    p: usize,
-    a: Answers,
-    t: TranscriptModel,
-    starts: &[u64],
-    ends: &[u64],
-    phases: &[u8],
-    hosts: &[u16],
-    froms: &[u64],
-    tos: &[u64],
-    bases: &[u64],
-) -> u64
+fn differs(rt: &impl Print, b: &[u8], p: usize, a: Answers, transcript: &Transcript) -> u64
     requires { (p ≤ 700000) × (a.at ≤ 12000) }
     ensures { result ≤ 1 }
 {
-    if is_same(b, p, a, t, starts, ends, phases, hosts, froms, tos, bases) {
+    if is_same(b, p, a, transcript) {
         return 0;
     }
-    report(rt, b"different", a.kind, t.id, u32_at(b, p));
+    report(rt, b"different", a.kind, transcript.model.id, u32_at(b, p));
     1
 }
 
 // All answers of the block.
-fn judge_answers(
-    rt: &impl Print,
-    b: &[u8],
-    a: Answers,
-    t: TranscriptModel,
-    starts: &[u64],
-    ends: &[u64],
-    phases: &[u8],
-    hosts: &[u16],
-    froms: &[u64],
-    tos: &[u64],
-    bases: &[u64],
-) -> Counts
+fn judge_answers(rt: &impl Print, b: &[u8], a: Answers, transcript: &Transcript) -> Counts
     requires { (a.at ≤ 12000) × (a.count ≤ 4096) × (a.first ≤ 80004) × (a.step ≤ 64) }
     ensures { (result.compared ≤ 4096) × (result.different ≤ 4096) }
 {
-    let count = a.count;
-    let step = a.step;
     let mut different: u64 = 0;
     let mut p = a.first;
-    let mut i: u64 = 0;
-    while i < count {
-        different += differs(
-            rt, b, p, a, t, starts, ends, phases, hosts, froms, tos, bases,
-        );
-        p += step;
-        i += 1;
+    for i in 0..a.count {
+        different += differs(rt, b, p, a, transcript);
+        p += a.step;
     }
     // An index is compared up to its end.
-    if 0 < step && p != b.len() {
-        report(rt, b"not whole", a.kind, t.id, p as u64);
+    if 0 < a.step && p != b.len() {
+        report(rt, b"not whole", a.kind, transcript.model.id, p as u64);
     }
     Counts {
-        compared: i,
+        compared: a.count,
         different,
     }
 }
 
+// Puts into each element what is read for its index.
+fn fill<T: Copy, F: Fn(usize) -> T>(out: &mut [T], read: F)
+    requires { (i : ℕ) → i < length out.old → F.pre read i }
+{
+    for (i, x) in out.iter_mut().enumerate() {
+        *x = read(i);
+    }
+}
+
+// The first n intervals.
+fn first_of<'a>(starts: &'a [u64], ends: &'a [u64], n: usize) -> Intervals<'a>
+    requires { (n ≤ length starts.now) × (n ≤ length ends.now) }
+{
+    Intervals {
+        starts: &starts[..n],
+        ends: &ends[..n],
+    }
+}
+
 // The block's answers, each against the port's.
-pub(crate) fn judge(rt: &impl Print, kind: u64, b: &[u8]) -> Counts
+pub(crate) fn judge(rt: &impl Print, kind: Kind, b: &[u8]) -> Counts
     ensures { (result.compared ≤ 4096) × (result.different ≤ 4096) }
 {
     let h = head_of(b);
-    let n = h.exons;
-    let m = h.segments;
-    let k = h.bases;
-    let s = h.segments_at;
-    let u = h.bases_at;
-    let a = answers_of(b, kind, h.end);
-    let t = h.model;
-    let starts = words(b, 32, 8, n);
-    let ends = words(b, 36, 8, n);
-    let phases = octets(b, s, 12, m);
-    let hosts = halves(b, s + 2, 12, m);
-    let froms = words(b, s + 4, 12, m);
-    let tos = words(b, s + 8, 12, m);
-    let bases = words(b, u, 4, k);
-    judge_answers(
-        rt,
-        b,
-        a,
-        t,
-        &starts[..n],
-        &ends[..n],
-        &phases[..m],
-        &hosts[..m],
-        &froms[..m],
-        &tos[..m],
-        &bases[..k],
-    )
+    let mut starts = [0u64; 512];
+    let mut ends = [0u64; 512];
+    let mut phases = [0u8; 512];
+    let mut exon_indexes = [0u16; 512];
+    let mut froms = [0u64; 512];
+    let mut tos = [0u64; 512];
+    let mut bases = [0u64; 64];
+    let at = h.segments_at;
+    fill(&mut starts[..h.exons], |i| u32_at(b, 32 + 8 * i));
+    fill(&mut ends[..h.exons], |i| u32_at(b, 36 + 8 * i));
+    fill(&mut phases[..h.segments], |i| byte_at(b, at + 12 * i) as u8);
+    fill(
+        &mut exon_indexes[..h.segments],
+        |i| u16_at(b, at + 2 + 12 * i) as u16,
+    );
+    fill(&mut froms[..h.segments], |i| u32_at(b, at + 4 + 12 * i));
+    fill(&mut tos[..h.segments], |i| u32_at(b, at + 8 + 12 * i));
+    fill(&mut bases[..h.bases], |i| u32_at(b, h.bases_at + 4 * i));
+    let exons = first_of(&starts, &ends, h.exons);
+    let coding = first_of(&froms, &tos, h.segments);
+    let segments = CdsSegments {
+        phases: &phases[..h.segments],
+        exon_indexes: &exon_indexes[..h.segments],
+        bases: coding,
+    };
+    let transcript = Transcript {
+        model: h.model,
+        exons,
+        segments,
+        selenocysteine: &bases[..h.bases],
+    };
+    judge_answers(rt, b, answers_of(b, kind, h.end), &transcript)
 }

@@ -27,14 +27,10 @@ pub(crate) fn next_block(rt: &impl Print, input: &mut impl Read, block: &mut [u8
         return cut_off(rt);
     }
     let n = u32_at(&size, 0) as usize;
-    if n == 0 {
+    if n == 0 || 65536 < n {
         return cut_off(rt);
     }
-    if n > 65536 {
-        return cut_off(rt);
-    }
-    let got = read_full(input, &mut block[..n]);
-    if got != n {
+    if read_full(input, &mut block[..n]) != n {
         return cut_off(rt);
     }
     n

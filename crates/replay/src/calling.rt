@@ -4,7 +4,7 @@ ghost use Rattle.std.specs.Prelude.{◌≤◌};
 use crate::columns::same_answer;
 use crate::numbers::{byte_at, count_at, u16_at, u32_at};
 use consequence::{Call, Called, annotate_snv};
-use transcript::TranscriptModel;
+use transcript::Transcript;
 
 fn call_at(b: &[u8], p: usize, chromosome: u16) -> Call
     requires { p ≤ 700000 }
@@ -22,26 +22,14 @@ fn same_called(b: &[u8], p: usize, called: Called) -> bool
 {
     let number = byte_at(b, p + 8);
     match called {
-        Called::Refused(n) => n as u64 == number,
-        Called::Answered(a) => number == 0 && same_answer(b, p + 12, a),
+        Ok(a) => number == 0 && same_answer(b, p + 12, a),
+        Err(refusal) => u64::from(u8::from(refusal)) == number,
     }
 }
 
 // Whether the call at p has the answer that stands behind it. The window stands at `at`, behind its chromosome, its first
 // coordinate and its length.
-pub(crate) fn is_same(
-    b: &[u8],
-    p: usize,
-    at: usize,
-    t: TranscriptModel,
-    starts: &[u64],
-    ends: &[u64],
-    phases: &[u8],
-    hosts: &[u16],
-    froms: &[u64],
-    tos: &[u64],
-    bases: &[u64],
-) -> bool
+pub(crate) fn is_same(b: &[u8], p: usize, at: usize, transcript: &Transcript) -> bool
     requires { (p ≤ 700000) × (at ≤ 12000) }
 {
     let from = at + 12;
@@ -53,15 +41,8 @@ pub(crate) fn is_same(
         u16_at(b, at) as u16,
         u32_at(b, at + 4),
         &b[from..to],
-        call_at(b, p, t.chromosome),
-        t,
-        starts,
-        ends,
-        phases,
-        hosts,
-        froms,
-        tos,
-        bases,
+        call_at(b, p, transcript.model.chromosome),
+        transcript,
     );
     same_called(b, p, called)
 }

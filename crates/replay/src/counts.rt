@@ -3,61 +3,78 @@ ghost use Rattle.std.specs.Prelude.{ℕ, ◌+◌, ◌*◌, ◌≤◌, ◌≡◌,
 
 use console::{print, print_decimal};
 
+// What the answers of a block are to.
+#[derive(Clone, Copy, PartialEq, Eq)]
+pub(crate) enum Kind {
+    Transcripts,
+    Places,
+    Intervals,
+    Calls,
+}
+
 #[derive(Drop)]
 pub(crate) struct Counts {
     pub compared: u64,
     pub different: u64,
 }
 
-// Adds n to the count of the kind, which an unknown one has not; `blocks` were counted before.
-pub(crate) fn raise(counts: &mut [u64; 4], kind: u64, n: u64, blocks: u64)
-    requires { (length counts.old ≡ 4)
-        × (n ≤ 4096)
-        × (blocks ≤ 1000000000)
-        × ((k : ℕ) → get_or counts.old k 0 ≤ 4096 * blocks) }
-    ensures { (length counts.new ≡ 4) × ((k : ℕ) → get_or counts.new k 0 ≤ 4096 * (blocks + 1)) }
-{
-    if kind >= 4 {
-        return;
+// The kind of the block whose first byte this is.
+pub(crate) fn kind_of(byte: u8) -> Option<Kind> {
+    match byte {
+        0 => Some(Kind::Transcripts),
+        1 => Some(Kind::Places),
+        2 => Some(Kind::Intervals),
+        3 => Some(Kind::Calls),
+        _ => None,
     }
-    let k = kind as usize;
-    counts[k] += n;
+}
+
+// Adds n to the count of the kind; `blocks` were counted before.
+pub(crate) fn raise(counts: &mut [u64; 4], kind: Kind, n: u64, blocks: u64)
+    requires long { length counts.old ≡ 4 }
+    requires few { n ≤ 4096 }
+    requires few_blocks { blocks ≤ 1000000000 }
+    requires counted { (k : ℕ) → get_or counts.old k 0 ≤ 4096 * blocks }
+    ensures long { length counts.new ≡ 4 }
+    ensures counted { (k : ℕ) → get_or counts.new k 0 ≤ 4096 * (blocks + 1) }
+{
+    counts[kind as usize] += n;
 }
 
 // What the answers of a kind are called.
-fn print_kind(rt: &impl Print, kind: u64) -> bool {
+fn name_of(kind: Kind) -> &'static [u8] {
     match kind {
-        0 => print(rt, b"transcripts"),
-        1 => print(rt, b"places"),
-        2 => print(rt, b"intervals"),
-        _ => print(rt, b"calls"),
+        Kind::Transcripts => b"transcripts",
+        Kind::Places => b"places",
+        Kind::Intervals => b"intervals",
+        Kind::Calls => b"calls",
     }
 }
 
-fn print_counts(rt: &impl Print, kind: u64, compared: u64, different: u64) {
-    print_decimal(rt, compared);
-    print(rt, b" ");
-    print_kind(rt, kind);
-    print(rt, b", ");
-    print_decimal(rt, different);
-    print(rt, b" different\n");
-}
-
 pub(crate) fn print_totals(rt: &impl Print, compared: [u64; 4], different: [u64; 4]) {
-    print_counts(rt, 0, compared[0], different[0]);
-    print_counts(rt, 1, compared[1], different[1]);
-    print_counts(rt, 2, compared[2], different[2]);
-    print_counts(rt, 3, compared[3], different[3]);
+    for kind in [
+        Kind::Transcripts,
+        Kind::Places,
+        Kind::Intervals,
+        Kind::Calls,
+    ] {
+        print_decimal(rt, compared[kind as usize]);
+        print(rt, b" ");
+        print(rt, name_of(kind));
+        print(rt, b", ");
+        print_decimal(rt, different[kind as usize]);
+        print(rt, b" different\n");
+    }
 }
 
 // Writes what is wrong with an answer: its kind, its transcript and, but for an index, a number of its own.
-pub(crate) fn report(rt: &impl Print, what: &[u8], kind: u64, id: u32, number: u64) {
+pub(crate) fn report(rt: &impl Print, what: &[u8], kind: Kind, id: u32, number: u64) {
     print(rt, what);
     print(rt, b": ");
-    print_kind(rt, kind);
+    print(rt, name_of(kind));
     print(rt, b" ");
-    print_decimal(rt, id as u64);
-    if kind != 0 {
+    print_decimal(rt, u64::from(id));
+    if kind != Kind::Transcripts {
         print(rt, b" ");
         print_decimal(rt, number);
     }

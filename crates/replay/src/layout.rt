@@ -1,13 +1,14 @@
 // Where the answers of a block stand.
 ghost use Rattle.std.specs.Prelude.{◌≤◌};
 
+use crate::counts::Kind;
 use crate::numbers::count_at;
 
-// Answers of a kind (0 an index, 1 places, 2 intervals, 3 calls): how many stand from `first` on, `step` bytes apart, and where the
+// Answers of a kind: how many stand from `first` on, `step` bytes apart, and where the
 // transcript ends. An index is one answer, and its step is 0.
 #[derive(Clone, Copy)]
 pub(crate) struct Answers {
-    pub kind: u64,
+    pub kind: Kind,
     pub at: usize,
     pub count: u64,
     pub first: usize,
@@ -15,7 +16,7 @@ pub(crate) struct Answers {
 }
 
 // Answers behind their count, which stands at `from`.
-fn counted(b: &[u8], kind: u64, at: usize, from: usize, step: usize) -> Answers
+fn counted(b: &[u8], kind: Kind, at: usize, from: usize, step: usize) -> Answers
     requires { (at ≤ 12000) × (from ≤ 80000) × (step ≤ 64) }
     ensures { (result.at ≤ 12000) × (result.count ≤ 4096) × (result.first ≤ 80004) × (result.step ≤ 64) }
 {
@@ -28,21 +29,21 @@ fn counted(b: &[u8], kind: u64, at: usize, from: usize, step: usize) -> Answers
     }
 }
 
-pub(crate) fn answers_of(b: &[u8], kind: u64, at: usize) -> Answers
+pub(crate) fn answers_of(b: &[u8], kind: Kind, at: usize) -> Answers
     requires { at ≤ 12000 }
     ensures { (result.at ≤ 12000) × (result.count ≤ 4096) × (result.first ≤ 80004) × (result.step ≤ 64) }
 {
     match kind {
-        0 => Answers {
+        Kind::Transcripts => Answers {
             kind,
             at,
             count: 1,
             first: at,
             step: 0,
         },
-        1 => counted(b, kind, at, at, 20),
-        2 => counted(b, kind, at, at, 16),
-        _ => {
+        Kind::Places => counted(b, kind, at, at, 20),
+        Kind::Intervals => counted(b, kind, at, at, 16),
+        Kind::Calls => {
             let window = count_at(b, at + 8, 65536) as usize;
             counted(b, kind, at, at + 12 + window, 64)
         }

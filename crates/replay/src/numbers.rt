@@ -1,19 +1,10 @@
 // Little-endian numbers in lent bytes. What lies past their end is 0.
 ghost use Rattle.std.specs.Prelude.{◌≤◌, ◌<◌};
 
-pub(crate) fn wide(x: u8) -> u64
-    ensures { result < 256 }
-{
-    x as u64
-}
-
 pub(crate) fn byte_at(b: &[u8], i: usize) -> u64
     ensures { result < 256 }
 {
-    if i < b.len() {
-        return wide(b[i]);
-    }
-    0
+    b.get(i).copied().map_or(0, u64::from)
 }
 
 pub(crate) fn u16_at(b: &[u8], i: usize) -> u64
@@ -30,15 +21,10 @@ pub(crate) fn u32_at(b: &[u8], i: usize) -> u64
     u16_at(b, i) + 65536 * u16_at(b, i + 2)
 }
 
-pub(crate) fn widened(x: u32) -> u64 {
-    x as u64
-}
-
 // The number at i, or `most` where it is larger.
 pub(crate) fn count_at(b: &[u8], i: usize, most: u64) -> u64
     requires { i < 900000 }
     ensures { result ≤ most }
 {
-    let n = u32_at(b, i);
-    if n < most { n } else { most }
+    u32_at(b, i).min(most)
 }

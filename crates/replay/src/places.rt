@@ -21,34 +21,23 @@ struct PlaceRow {
 fn signed_of(x: u64) -> i64
     requires { x < 4294967296 }
 {
-    if x < 2147483648 {
-        x as i64
-    } else {
-        -((4294967296 - x) as i64)
-    }
+    i64::from((x as u32).cast_signed())
 }
 
 // A distance as the lists can hold it, -1 where they cannot.
 fn bounded(x: u64) -> i64 {
-    if x < 2147483648 { x as i64 } else { -1 }
+    i32::try_from(x).map_or(-1, i64::from)
 }
 
 fn row(kind: u64, index: u16, mark: bool, distance: i64) -> PlaceRow {
     PlaceRow {
         kind,
         mark,
-        index: index as u64,
+        index: u64::from(index),
         distance,
         segment: 0,
         position: 0,
         number: 0,
-    }
-}
-
-fn is_acceptor(side: SpliceSide) -> bool {
-    match side {
-        SpliceSide::Donor => false,
-        SpliceSide::Acceptor => true,
     }
 }
 
@@ -72,11 +61,11 @@ fn row_of(place: VariantLocation) -> PlaceRow {
         } => PlaceRow {
             kind: 4,
             mark: is_splice_region,
-            index: exon_index as u64,
-            distance: bounded(cds_offset.0 as u64),
-            segment: cds_segment_index as u64,
-            position: codon_position as u64,
-            number: codon_number as u64,
+            index: u64::from(exon_index),
+            distance: bounded(u64::from(cds_offset.0)),
+            segment: u64::from(cds_segment_index),
+            position: u64::from(codon_position),
+            number: u64::from(codon_number),
         },
         VariantLocation::ThreePrimeUtr {
             exon_index,
@@ -86,16 +75,21 @@ fn row_of(place: VariantLocation) -> PlaceRow {
         VariantLocation::SpliceDonor {
             intron_index,
             offset,
-        } => row(6, intron_index, false, bounded(offset as u64)),
+        } => row(6, intron_index, false, bounded(u64::from(offset))),
         VariantLocation::SpliceAcceptor {
             intron_index,
             offset,
-        } => row(7, intron_index, false, bounded(offset as u64)),
+        } => row(7, intron_index, false, bounded(u64::from(offset))),
         VariantLocation::SpliceRegion {
             intron_index,
             side,
             distance,
-        } => row(8, intron_index, is_acceptor(side), distance),
+        } => row(
+            8,
+            intron_index,
+            matches!(side, SpliceSide::Acceptor),
+            distance,
+        ),
         VariantLocation::Intron {
             intron_index,
             distance_to_nearest_exon,
@@ -120,24 +114,11 @@ pub(crate) fn same_place(b: &[u8], at: usize, place: VariantLocation) -> bool
     requires { at ≤ 800000 }
 {
     let r = row_of(place);
-    if r.kind != byte_at(b, at) {
-        return false;
-    }
-    if r.mark != (byte_at(b, at + 1) == 1) {
-        return false;
-    }
-    if r.index != u16_at(b, at + 2) {
-        return false;
-    }
-    if r.segment != u16_at(b, at + 4) {
-        return false;
-    }
-    if r.position != byte_at(b, at + 6) {
-        return false;
-    }
-    if r.number != u32_at(b, at + 12) {
-        return false;
-    }
-    let x = u32_at(b, at + 8);
-    r.distance == signed_of(x)
+    r.kind == byte_at(b, at)
+        && r.mark == (byte_at(b, at + 1) == 1)
+        && r.index == u16_at(b, at + 2)
+        && r.segment == u16_at(b, at + 4)
+        && r.position == byte_at(b, at + 6)
+        && r.number == u32_at(b, at + 12)
+        && r.distance == signed_of(u32_at(b, at + 8))
 }

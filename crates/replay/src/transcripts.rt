@@ -1,5 +1,5 @@
 // The transcript at the head of a block.
-ghost use Rattle.std.specs.Prelude.{◌≤◌, ◌<◌, ◌≡◌, length};
+ghost use Rattle.std.specs.Prelude.{◌≤◌};
 
 use crate::numbers::{byte_at, u16_at, u32_at};
 use transcript::{CdsBounds, Strand, TranscriptModel};
@@ -16,28 +16,20 @@ pub(crate) struct Head {
     pub end: usize,
 }
 
-fn least(a: u64, b: u64) -> usize
-    ensures { result ≤ b }
-{
-    if a < b { a as usize } else { b as usize }
-}
-
 fn strand_of(mark: u64) -> Strand {
     if mark == 0 {
-        return Strand::Plus;
+        Strand::Plus
+    } else {
+        Strand::Minus
     }
-    Strand::Minus
 }
 
 // Both bounds where the mark's second bit is set.
-fn bounds_of(mark: u64, start: u64, end: u64) -> CdsBounds {
-    if mark / 2 % 2 == 0 {
-        return CdsBounds::Neither;
-    }
-    CdsBounds::Both {
-        cds_genomic_start: start,
-        cds_genomic_end: end,
-    }
+fn bounds_of(mark: u64, cds_genomic_start: u64, cds_genomic_end: u64) -> Option<CdsBounds> {
+    (mark / 2 % 2 == 1).then_some(CdsBounds {
+        cds_genomic_start,
+        cds_genomic_end,
+    })
 }
 
 fn model_of(b: &[u8]) -> TranscriptModel {
@@ -65,9 +57,9 @@ pub(crate) fn head_of(b: &[u8]) -> Head
         × (result.end ≤ 12000) }
 {
     let model = model_of(b);
-    let exons = least(u16_at(b, 10), 512);
-    let segments = least(u16_at(b, 12), 512);
-    let bases = least(u16_at(b, 14), 64);
+    let exons = u16_at(b, 10).min(512) as usize;
+    let segments = u16_at(b, 12).min(512) as usize;
+    let bases = u16_at(b, 14).min(64) as usize;
     let segments_at = 32 + exons * 8;
     let bases_at = segments_at + segments * 12;
     Head {
@@ -79,50 +71,4 @@ pub(crate) fn head_of(b: &[u8]) -> Head
         bases_at,
         end: bases_at + bases * 4,
     }
-}
-
-// The first n of the numbers that stand `step` bytes apart from `at` on, then zeros.
-pub(crate) fn words(b: &[u8], at: usize, step: usize, n: usize) -> [u64; 512]
-    requires { (at ≤ 12000) × (step ≤ 12) × (n ≤ 512) }
-    ensures { 512 ≡ length result }
-{
-    let mut out = [0u64; 512];
-    let mut p = at;
-    let mut i = 0;
-    while i < n {
-        out[i] = u32_at(b, p);
-        p += step;
-        i += 1;
-    }
-    out
-}
-
-pub(crate) fn halves(b: &[u8], at: usize, step: usize, n: usize) -> [u16; 512]
-    requires { (at ≤ 12000) × (step ≤ 12) × (n ≤ 512) }
-    ensures { 512 ≡ length result }
-{
-    let mut out = [0u16; 512];
-    let mut p = at;
-    let mut i = 0;
-    while i < n {
-        out[i] = u16_at(b, p) as u16;
-        p += step;
-        i += 1;
-    }
-    out
-}
-
-pub(crate) fn octets(b: &[u8], at: usize, step: usize, n: usize) -> [u8; 512]
-    requires { (at ≤ 12000) × (step ≤ 12) × (n ≤ 512) }
-    ensures { 512 ≡ length result }
-{
-    let mut out = [0u8; 512];
-    let mut p = at;
-    let mut i = 0;
-    while i < n {
-        out[i] = byte_at(b, p) as u8;
-        p += step;
-        i += 1;
-    }
-    out
 }

@@ -1,18 +1,17 @@
 // One case of the list.
-ghost use Rattle.std.specs.Prelude.{◌≤◌, ◌<◌, ◌≡◌, length};
+ghost use Rattle.std.specs.Prelude.{◌≤◌, ◌<◌, IsNone, IfSome};
 
-use crate::stored::{read_part, room, skip};
+use crate::stored::{read_part, skip};
 use crate::whole::compare_listing;
 use common::little::u32_at;
-use console::{print, print_decimal};
+use console::{buffer, print, print_decimal};
 use std::io::Read;
 
-// What became of a case: its bytes where they are the same, 1 where it differs, and whether it was there as a whole.
+// What became of a case: its bytes where they are the same, and 1 where it differs.
 #[derive(Drop)]
 pub(crate) struct Outcome {
     pub bytes: u64,
     pub different: u64,
-    pub whole: bool,
 }
 
 fn report(rt: &impl Print, what: &[u8], number: u64) {
@@ -20,23 +19,13 @@ fn report(rt: &impl Print, what: &[u8], number: u64) {
     print_decimal(rt, number);
 }
 
-// No case, or none that can be judged.
-pub(crate) fn no_case() -> Outcome
-    ensures { (result.bytes ≡ 0) × (result.different ≡ 0) }
-{
-    Outcome {
-        bytes: 0,
-        different: 0,
-        whole: false,
-    }
-}
-
-pub(crate) fn cut_off(rt: &impl Print, number: u64) -> Outcome
-    ensures { (result.bytes ≡ 0) × (result.different ≡ 0) }
+// A case that is not there as a whole.
+pub(crate) fn cut_off(rt: &impl Print, number: u64) -> Option<Outcome>
+    ensures { IsNone result }
 {
     report(rt, b"not whole or too long: case ", number);
     print(rt, b"\n");
-    no_case()
+    None
 }
 
 // The number of four bytes at i.
@@ -46,18 +35,19 @@ fn size_at(sizes: &[u8; 16], i: usize) -> usize
     u32_at(sizes, i) as usize
 }
 
-// Reads a case behind its four lengths, lists it and compares.
+// Reads a case behind its four lengths, lists it and compares; none where it is not whole. The rooms have a byte more than the longest
+// deck, window file or calls of a case.
 pub(crate) fn replay_case(
     rt: &impl Print,
     input: &mut impl Read,
     number: u64,
     sizes: &[u8; 16],
-) -> Outcome
-    ensures { (result.bytes < 4294967296) × (result.different ≤ 1) }
+) -> Option<Outcome>
+    ensures { IfSome result (λ o. (o.bytes < 4294967296) × (o.different ≤ 1)) }
 {
-    let mut deck = room();
-    let mut window = room();
-    let mut calls = room();
+    let mut deck = buffer::<65553>();
+    let mut window = buffer::<65553>();
+    let mut calls = buffer::<65553>();
     let d = read_part(input, &mut deck, size_at(sizes, 0));
     let w = read_part(input, &mut window, size_at(sizes, 4));
     let c = read_part(input, &mut calls, size_at(sizes, 8));
@@ -66,24 +56,18 @@ pub(crate) fn replay_case(
     }
     let stored = size_at(sizes, 12);
     let compared = compare_listing(input, &deck[..d], &window[..w], &calls[..c], stored);
-    if compared.same {
-        return Outcome {
+    let Err(left) = compared else {
+        return Some(Outcome {
             bytes: stored as u64,
             different: 0,
-            whole: true,
-        };
-    }
+        });
+    };
     report(rt, b"different: case ", number);
-    report(
-        rt,
-        b", in the last bytes, of which there are ",
-        compared.left as u64,
-    );
+    report(rt, b", in the last bytes, of which there are ", left as u64);
     print(rt, b"\n");
-    skip(input, compared.left);
-    Outcome {
+    skip(input, left);
+    Some(Outcome {
         bytes: 0,
         different: 1,
-        whole: true,
-    }
+    })
 }

@@ -4,13 +4,12 @@
 #![tactic(auto)]
 
 mod cases;
-mod compare;
 mod stored;
 mod whole;
 
-ghost use Rattle.std.specs.Prelude.{◌≤◌, ◌<◌};
+ghost use Rattle.std.specs.Prelude.{◌≤◌, ◌<◌, IfSome};
 
-use cases::{Outcome, cut_off, no_case, replay_case};
+use cases::{Outcome, cut_off, replay_case};
 use console::{print, print_decimal, read_full};
 use std::io::Read;
 
@@ -24,13 +23,13 @@ fn print_totals(rt: &impl Print, cases: u64, bytes: u64, different: u64) {
 }
 
 // The next case, which has the number given; none where the list ends.
-fn next_case(rt: &impl Print, input: &mut impl Read, number: u64) -> Outcome
-    ensures { (result.bytes < 4294967296) × (result.different ≤ 1) }
+fn next_case(rt: &impl Print, input: &mut impl Read, number: u64) -> Option<Outcome>
+    ensures { IfSome result (λ o. (o.bytes < 4294967296) × (o.different ≤ 1)) }
 {
     let mut sizes = [0u8; 16];
     let got = read_full(input, &mut sizes);
     if got == 0 {
-        return no_case();
+        return None;
     }
     if got < 16 {
         return cut_off(rt, number);
@@ -44,13 +43,12 @@ fn replay_all(rt: &impl Print, input: &mut impl Read) {
     let mut bytes: u64 = 0;
     let mut different: u64 = 0;
     while cases < 1_000_000_000 {
-        let o = next_case(rt, input, cases + 1);
-        if !o.whole {
+        let Some(outcome) = next_case(rt, input, cases + 1) else {
             break;
-        }
+        };
         cases += 1;
-        bytes += o.bytes;
-        different += o.different;
+        bytes += outcome.bytes;
+        different += outcome.different;
     }
     print_totals(rt, cases, bytes, different);
 }

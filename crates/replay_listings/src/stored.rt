@@ -1,16 +1,9 @@
 // Stored bytes on standard input.
-ghost use Rattle.std.specs.Prelude.{◌≤◌, ◌≡◌, length};
+ghost use Rattle.std.specs.Prelude.{◌≤◌};
 ghost use Rattle.console.specs.Counts.{IsPrefixLen};
 
-use console::{buffer, large_buffer, read_full};
+use console::{buffer, read_full};
 use std::io::Read;
-
-// Room for one byte more than the longest deck, window file or calls of a case.
-pub(crate) fn room() -> [u8; 65553]
-    ensures { 65553 ≡ length result }
-{
-    [0; 65553]
-}
 
 // Reads the next n bytes to the front of `into`, and gives how many it read: none where they do not fit.
 pub(crate) fn read_part(input: &mut impl Read, into: &mut [u8], n: usize) -> usize
@@ -25,23 +18,17 @@ pub(crate) fn read_part(input: &mut impl Read, into: &mut [u8], n: usize) -> usi
 
 // Whether the next bytes are those of the line, which has at most 4,096; as many are read.
 pub(crate) fn is_next(input: &mut impl Read, line: &[u8]) -> bool {
-    let mut held = buffer();
+    let mut held = buffer::<4096>();
     let n = read_part(input, &mut held, line.len());
     line == &held[..n]
 }
 
-fn least(a: usize, b: usize) -> usize
-    ensures { (result ≤ a) × (result ≤ b) }
-{
-    if a < b { a } else { b }
-}
-
 // Reads n bytes away, in pieces.
 pub(crate) fn skip(input: &mut impl Read, n: usize) {
-    let mut piece = large_buffer();
+    let mut piece = buffer::<65536>();
     let mut left = n;
     while left > 0 {
-        let got = read_part(input, &mut piece, least(left, 65536));
+        let got = read_part(input, &mut piece, left.min(65536));
         if got == 0 {
             break;
         }

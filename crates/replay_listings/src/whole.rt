@@ -1,36 +1,43 @@
 // Comparing a listing, piece after piece, in a buffer that makes many pieces of it.
-use crate::compare::{Compared, compare_piece, differs, ended};
+use crate::stored::is_next;
 use console::buffer;
-use listing::{Piece, first};
+use listing::first;
 use pieces::list_piece;
 use std::io::Read;
 
-// The listing of a deck, a window file and the calls, up to the first piece that differs from the stored bytes.
+// Compares a piece with as many of the stored bytes that are left, and answers how many are left then: `Err` where it differs.
+fn compare_piece(input: &mut impl Read, bytes: &[u8], left: usize) -> Result<usize, usize> {
+    let n = bytes.len();
+    if left < n {
+        return Err(left);
+    }
+    if is_next(input, bytes) {
+        Ok(left - n)
+    } else {
+        Err(left - n)
+    }
+}
+
+// The listing of a deck, a window file and the calls, up to the first piece that differs from the stored bytes: how many of these are
+// left then, or behind the end.
 pub(crate) fn compare_listing(
     input: &mut impl Read,
     deck: &[u8],
     window: &[u8],
     calls: &[u8],
     stored: usize,
-) -> Compared {
-    let mut out = buffer();
+) -> Result<(), usize> {
+    let mut out = buffer::<4096>();
     let mut cursor = first();
-    let mut c = Compared {
-        left: stored,
-        same: true,
-    };
+    let mut left = stored;
     loop {
-        let piece = list_piece(deck, window, calls, cursor, &mut out);
-        match piece {
-            Piece::Lines { length, next } => {
-                c = compare_piece(input, &out[..length], c);
-                if !c.same {
-                    return c;
-                }
-                cursor = next;
-            }
-            Piece::Last { length } => return ended(compare_piece(input, &out[..length], c)),
-            Piece::Refused(_) => return differs(c),
+        let Ok(piece) = list_piece(deck, window, calls, cursor, &mut out) else {
+            return Err(left);
+        };
+        left = compare_piece(input, &out[..piece.length], left)?;
+        match piece.next {
+            Some(next) => cursor = next,
+            None => return if left == 0 { Ok(()) } else { Err(left) },
         }
     }
 }

@@ -38,12 +38,10 @@ fn line_byte(rank: u32, i: usize) -> u8
 fn begins_line(row: &[u8], rank: u32) -> bool
     requires { rank < 100 }
 {
-    let mut i = 0;
-    while i < row.len() {
-        if row[i] != line_byte(rank, i) {
+    for (i, b) in row.iter().enumerate() {
+        if *b != line_byte(rank, i) {
             return false;
         }
-        i += 1;
     }
     true
 }
@@ -52,14 +50,7 @@ fn begins_line(row: &[u8], rank: u32) -> bool
 fn is_line(row: &[u8], rank: u32) -> bool
     requires { rank < 100 }
 {
-    let n = row.len();
-    if n == 0 {
-        return false;
-    }
-    if row[n - 1] != b'\n' {
-        return false;
-    }
-    name_length(rank) != 0 && begins_line(row, rank)
+    row.ends_with(b"\n") && name_length(rank) != 0 && begins_line(row, rank)
 }
 
 // 1, and a line.
@@ -93,34 +84,27 @@ fn row_lacks(rt: &impl Print, rank: u32) -> u64
     report(rt, b"no row: rank ", rank)
 }
 
-// One past the newline that ends the row at `at`, or the text's end.
-fn row_end(text: &[u8], at: usize) -> usize
-    requires { at < length text.now }
-    ensures { (at < result) × (result ≤ length text.now) }
+// How long the first row is, with the newline that ends it.
+fn row_length(text: &[u8]) -> usize
+    requires { 0 < length text.now }
+    ensures { (0 < result) × (result ≤ length text.now) }
 {
-    let mut i = at;
-    while i < text.len() {
-        if text[i] == b'\n' {
-            return i + 1;
-        }
-        i += 1;
+    match text.iter().position(|b| *b == b'\n') {
+        Some(k) => k + 1,
+        None => text.len(),
     }
-    i
 }
 
-// Compares row after row with the line of the next rank, and writes the counts.
+// Compares row after row with the line of the next rank, and writes the counts. A `for` over `split_inclusive` was tried: it is not proved.
 fn compare(rt: &impl Print, text: &[u8]) {
+    let mut rest = text;
     let mut rank: u32 = 1;
     let mut differ: u64 = 0;
-    let mut at = 0;
-    while rank < 99 {
-        if at >= text.len() {
-            break;
-        }
-        let to = row_end(text, at);
-        differ += row_differs(rt, &text[at..to], rank);
+    while rank < 99 && !rest.is_empty() {
+        let (row, more) = rest.split_at(row_length(rest));
+        differ += row_differs(rt, row, rank);
         rank += 1;
-        at = to;
+        rest = more;
     }
     differ += row_lacks(rt, rank);
     print_decimal(rt, rank as u64 - 1);
@@ -130,7 +114,7 @@ fn compare(rt: &impl Print, text: &[u8]) {
 }
 
 fn main(rt: HostRuntime) {
-    let mut text = buffer();
+    let mut text = buffer::<4096>();
     let n = read_full(&mut rt.stdin(), &mut text);
     compare(&rt, &text[..n]);
 }

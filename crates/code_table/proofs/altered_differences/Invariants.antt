@@ -1,9 +1,12 @@
-use Rattle.std.proofs.Common.{◌*◌, ◌≤◌, ◌-◌}
+use Rattle.std.proofs.Common.{◌+◌, ◌*◌, ◌≤◌}
 use Rattle.code_table.proofs.altered_differences.Given as goal
 
 -- at most one is counted for each altered codon passed
-abbrev pub invariant-loop-k : goal.invariant-loop-k
-invariant-loop-k g l = (l.k ≤ l.n * 12) × (l.count ≤ l.k)
+abbrev pub invariant-loop-i : goal.invariant-loop-i
+invariant-loop-i g l = l.count ≤ 12 * l.i
 
-abbrev pub decreases-loop-k : goal.decreases-loop-k
-decreases-loop-k g l = l.n * 12 - l.k
+abbrev pub invariant-loop-place : goal.invariant-loop-place
+invariant-loop-place g l = l.count ≤ 12 * l.i + 4 * l.place
+
+abbrev pub invariant-loop-base : goal.invariant-loop-base
+invariant-loop-base g l = l.count ≤ 12 * l.i + 4 * l.place + l.base-index

@@ -1,15 +1,11 @@
-use Prim.Native.Nat.{ℕ, ◌*◌, ◌-◌, ◌≤◌}
-use mathlib.Core.Path.{◌≡◌}
-use lib.ListN.{length, get_or}
+use Rattle.std.proofs.Common.{ℕ, ◌*◌, ◌≤◌, ◌≡◌, length, get_or}
 use Rattle.replay.proofs.judge_all.Given as goal
 
 abbrev pub invariant-loop-blocks : goal.invariant-loop-blocks
-invariant-loop-blocks g l = (l.blocks ≤ 1000000000)
-    × (65536 ≡ length l.block)
-    × (4 ≡ length l.compared)
-    × (4 ≡ length l.different)
-    × ((k : ℕ) → get_or l.compared k 0 ≤ 4096 * l.blocks)
-    × ((k : ℕ) → get_or l.different k 0 ≤ 4096 * l.blocks)
-
-abbrev pub decreases-loop-blocks : goal.decreases-loop-blocks
-decreases-loop-blocks g l = 1000000000 - l.blocks
+invariant-loop-blocks g l = record {
+  long : 65536 ≡ length l.block;
+  kinds : 4 ≡ length l.compared;
+  kinds_of_different : 4 ≡ length l.different;
+  compared : (k : ℕ) → get_or l.compared k 0 ≤ 4096 * l.blocks;
+  different : (k : ℕ) → get_or l.different k 0 ≤ 4096 * l.blocks;
+}

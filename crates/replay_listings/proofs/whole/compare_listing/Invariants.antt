@@ -3,8 +3,8 @@ use lib.ListN.{length}
 use Rattle.listing.specs.Pieces.{steps}
 use Rattle.replay_listings.proofs.whole.compare_listing.Given as goal
 
-abbrev pub invariant-loop-length : goal.invariant-loop-length
-invariant-loop-length g l = 4096 ≡ length l.out
+abbrev pub invariant-loop-piece : goal.invariant-loop-piece
+invariant-loop-piece g l = 4096 ≡ length l.out
 
-abbrev pub decreases-loop-length : goal.decreases-loop-length
-decreases-loop-length g l = length (steps l.deck l.window l.calls l.cursor)
+abbrev pub decreases-loop-piece : goal.decreases-loop-piece
+decreases-loop-piece g l = length (steps l.deck l.window l.calls l.cursor)
