@@ -71,7 +71,7 @@ pub(crate) fn put_cds_snv(
         position,
     );
     let Some(columns) = read else {
-        put_refusal(out, at, Refusal::CodonOutsideWindow);
+        put_refusal(out, at, u8::from(Refusal::CodonOutsideWindow));
         return;
     };
     let spill = spill_at(scalars.has_frameshift_intron, transcript.exons, strand, p);

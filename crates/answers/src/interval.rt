@@ -21,6 +21,6 @@ pub fn answer_interval(
     let flank = classify_flank(chromosome, start, end, transcript)?;
     let intron = frameshift_intron_endpoint(chromosome, start, end, transcript)?;
     let spill = exonic_splice_spill(chromosome, start, end, transcript)?;
-    put_interval(out, flank, intron, spill);
+    put_interval(out, flank, Ok(intron), spill);
     Ok(())
 }

@@ -47,7 +47,7 @@ pub(crate) fn put_snv(
         call,
     );
     if let Err(refusal) = opening {
-        put_refusal(out, at, refusal);
+        put_refusal(out, at, u8::from(refusal));
         return;
     }
     let p = base_of(transcript.model.strand, call.position);

@@ -14,7 +14,7 @@ use Rattle.codon.specs.declared.Codon.{Codon}
 use Rattle.codon.specs.declared.GeneticCode.{GeneticCode}
 use Rattle.codon.specs.Table.{code_table, codon_to_index, translate_codon, build_alt_codon}
 use Rattle.codon.specs.Altered.{altered_letter}
-use Rattle.codon.specs.code.Letters.{entry_by_place, BothLetters}
+use Rattle.codon.specs.code.Letters.{entry_by_place, AlteredLetters, BothLetters}
 use Rattle.codon.proofs.Index.{found}
 use Rattle.codon.proofs.Replaced.{altered_is}
 
@@ -27,6 +27,14 @@ in_order table codon place base hc hb =
     let y : n / 256 ≡ place = omega arith in
     let z : n % 4 ≡ base = omega arith in
     rw (x, y, z)
+
+-- the entry of a codon, a place and a base follows the rule
+pub entry_of :
+    {table letters : List ℕ} → AlteredLetters table letters →
+    (codon place base : ℕ) → codon < 64 → place < 3 → base < 4 →
+    get_or letters (place * 256 + codon * 4 + base) 0 ≡ altered_letter table (codon * 12 + place * 4 + base)
+entry_of {table} a codon place base hc hp hb =
+    a.entry (place * 256 + codon * 4 + base) (omega arith) ∙ in_order table codon place base hc hb
 
 -- the entry of a codon with its own third base is the codon's letter
 pub own_is :

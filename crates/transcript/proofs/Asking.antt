@@ -68,3 +68,6 @@ module _ (t : Transcript) (bad away : Bool) where
 module _ {A : Type 0} (refused : ℕ → A) (x : A) (w : ℕ) where
   pub is_refused_lem : (n : ℕ) → 0 < n → w ≡ n → refused n ≡ cond (eqb w 0) x (refused w)
   is_refused_lem n l e = rw (e, ne_eqb n 0 (λ z. (omega arith)))
+
+  pub is_answered_lem : w ≡ 0 → x ≡ cond (eqb w 0) x (refused w)
+  is_answered_lem e = rw e

@@ -1,7 +1,6 @@
 // The answer to a call as numbers.
-ghost use Rattle.std.specs.Prelude.{◌+◌, ◌≤◌, ◌≡◌, length, Ok, Err};
+ghost use Rattle.std.specs.Prelude.{◌+◌, ◌≤◌, ◌≡◌, ◌∷◌, length, pos, replicate, Ok};
 ghost use Rattle.std.proofs.lemmas.List.Edits.{sets};
-ghost use Rattle.consequence.specs.Numbers.{called_words};
 ghost use Rattle.words.specs.code.Put.{put_at};
 ghost use Rattle.words.specs.code.Near.{capped_words};
 
@@ -9,7 +8,6 @@ use crate::columns::put_columns;
 use crate::located::put_row;
 use crate::row::row_of;
 use crate::words::{has_room, put_counts};
-use common::refusal::Refusal;
 use consequence::{Called, ConsequenceResult};
 
 fn put_result(out: &mut [i64], at: usize, a: ConsequenceResult)
@@ -20,12 +18,12 @@ fn put_result(out: &mut [i64], at: usize, a: ConsequenceResult)
     put_columns(out, at + 8, a);
 }
 
-// The number of a refusal with zeros behind it.
-pub fn put_refusal(out: &mut [i64], at: usize, refusal: Refusal)
+// The number of a refusal with zeros behind it, as `called_words` has them.
+pub fn put_refusal(out: &mut [i64], at: usize, n: u8)
     requires { at + 20 ≤ length out.old }
-    ensures { out.new ≡ sets out.old at (called_words (Err refusal)) }
+    ensures { out.new ≡ sets out.old at (pos n ∷ replicate 19 (pos 0)) }
 {
-    put_counts(out, at, refusal as u32, 0, 0, 0);
+    put_counts(out, at, u32::from(n), 0, 0, 0);
     put_counts(out, at + 4, 0, 0, 0, 0);
     put_counts(out, at + 8, 0, 0, 0, 0);
     put_counts(out, at + 12, 0, 0, 0, 0);
@@ -39,7 +37,7 @@ fn store_called(out: &mut [i64], at: usize, called: Called)
 {
     match called {
         Ok(a) => put_result(out, at, a),
-        Err(refusal) => put_refusal(out, at, refusal),
+        Err(refusal) => put_refusal(out, at, u8::from(refusal)),
     }
 }
 

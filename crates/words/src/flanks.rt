@@ -1,12 +1,13 @@
 // The answers about an interval as numbers.
 ghost use Rattle.std.specs.Prelude.{◌≡◌, ◌≤◌, ◌∷◌, [], length, pos, Ok};
 ghost use Rattle.std.proofs.lemmas.List.Edits.{sets};
-ghost use Rattle.footprint.specs.Numbers.{flank_words, intron_words};
+ghost use Rattle.footprint.specs.Numbers.{flank_words, endpoint_words};
 ghost use Rattle.words.specs.IntervalWords.{interval_words};
 ghost use Rattle.words.specs.code.Put.{put_at};
 ghost use Rattle.words.specs.code.Near.{capped_flank};
 
 use crate::words::{cap, has_room, put_counts, put_three};
+use common::refusal::Refusal;
 use footprint::{Flank, SpliceSpill};
 
 // Kind and distance.
@@ -22,19 +23,24 @@ fn flank_counts(flank: Flank) -> (u32, u32)
 }
 
 // Whether there is an intron, and its index.
-fn intron_counts(intron: Option<u16>) -> (u32, u32)
-    ensures { pos result.0 ∷ pos result.1 ∷ [] ≡ intron_words intron }
+fn intron_counts(intron: Result<Option<u16>, Refusal>) -> (u32, u32)
+    ensures { pos result.0 ∷ pos result.1 ∷ [] ≡ endpoint_words intron }
 {
     match intron {
-        Some(index) => (1, index as u32),
-        None => (0, 0),
+        Ok(Some(index)) => (1, index as u32),
+        Ok(None) | Err(_) => (0, 0),
     }
 }
 
 // The answers as 7 numbers.
-fn store_interval(out: &mut [i64], flank: Flank, intron: Option<u16>, spill: SpliceSpill)
+fn store_interval(
+    out: &mut [i64],
+    flank: Flank,
+    intron: Result<Option<u16>, Refusal>,
+    spill: SpliceSpill,
+)
     requires { 7 ≤ length out.old }
-    ensures { out.new ≡ sets out.old 0 (interval_words (Ok (capped_flank flank)) (Ok intron) (Ok spill)) }
+    ensures { out.new ≡ sets out.old 0 (interval_words (Ok (capped_flank flank)) intron (Ok spill)) }
 {
     let (kind, distance) = flank_counts(flank);
     let (found, index) = intron_counts(intron);
@@ -43,8 +49,13 @@ fn store_interval(out: &mut [i64], flank: Flank, intron: Option<u16>, spill: Spl
 }
 
 // The same at the front of any buffer. Where it has fewer than 7 elements nothing is stored.
-pub fn put_interval(out: &mut [i64], flank: Flank, intron: Option<u16>, spill: SpliceSpill)
-    ensures { out.new ≡ put_at out.old 0 (interval_words (Ok (capped_flank flank)) (Ok intron) (Ok spill)) }
+pub fn put_interval(
+    out: &mut [i64],
+    flank: Flank,
+    intron: Result<Option<u16>, Refusal>,
+    spill: SpliceSpill,
+)
+    ensures { out.new ≡ put_at out.old 0 (interval_words (Ok (capped_flank flank)) intron (Ok spill)) }
 {
     if has_room(out.len(), 0, 7) {
         store_interval(out, flank, intron, spill);

@@ -69,7 +69,7 @@ read_cds_codon-read-requires c =
 pub returns-in_default : goal.returns-in_default
 returns-in_default c =
     let b = (goal.at.returns-in_default c).Start in
-    c.put_refusal.ensures
+    rw c.from.ensures at c.put_refusal.ensures
     ∙ ap (left b (spill_at (oriented (transcript b)) c.args.p)) (ap (given_by b) (sym c.in_default.is) ∙ is_there (goal.at.returns-in_default c).After-read_cds_codon-read)
 
 pub spill_at-spill-requires-clause-ready : goal.spill_at-spill-requires-clause-ready

@@ -49,7 +49,7 @@ pub returns-in-Err : goal.returns-in-Err
 returns-in-Err c =
     let b = (goal.at.returns-in-Err c).Start in
     let r = c.judge_opening-opening in
-    c.put_refusal.ensures
+    rw c.from.ensures at c.put_refusal.ensures
     ∙ ap (left b) (refused c.args.ranges (transcript b) (window b) c.args.call c.in-Err.refusal (sym (r.ensures (transcript b) c.requires.ready.admitted refl) ∙ c.in-Err.is))
 
 pub place_by_order-place-requires-clause-low : goal.place_by_order-place-requires-clause-low
