@@ -28,9 +28,8 @@ fn print_pieces(
     let mut out = buffer::<65536>();
     let mut cursor = first();
     loop {
-        let Ok(piece) = next_piece(
-            deck, window, calls, opening, table, index, cursor, &mut out,
-        ) else {
+        let Ok(piece) = next_piece(deck, window, calls, opening, table, index, cursor, &mut out)
+        else {
             return;
         };
         if !print(to, errors, &out[..piece.length]) {
