@@ -11,12 +11,10 @@ use Rattle.common.specs.Lists.{any}
 use Rattle.common.specs.Refuse.{refuse}
 use Rattle.common.proofs.TestParts.{refuse_none, or_else_none}
 use Rattle.common.proofs.Outcome.{was_answered}
-use Rattle.transcript.specs.declared.Strand.{Strand}
-use Rattle.transcript.specs.declared.Strand.TheVariants.{Plus, Minus}
 use Rattle.transcript.specs.declared.Transcript.{Transcript as Lent}
 use Rattle.transcript.specs.Limits.{top, max_exons}
 use Rattle.transcript.specs.Transcript.{Transcript, transcript_of}
-use Rattle.transcript.specs.Orient.{orient, oriented}
+use Rattle.transcript.specs.Orient.{oriented}
 use Rattle.transcript.specs.Admission.{bad_exon, admission}
 use Rattle.transcript.specs.Question.{bad_interval, is_elsewhere, question_refusal, interval_refusal}
 use Rattle.transcript.specs.code.Lent.{exons_in, oriented_in}
@@ -35,11 +33,6 @@ pub record Ready (t : Lent) (chromosome s e : ℕ) : Type 0 where
   pub exons : (oriented (transcript_of t)).exons ≡ oriented_in t.model.strand t.exons
   pub start_low : s ≤ top
   pub end_low : e ≤ top
-  pub order : (orient t.model.strand s e).start ≤ (orient t.model.strand s e).end
-
-orient_order : (σ : Strand) (s e : ℕ) → s ≤ e → (orient σ s e).start ≤ (orient σ s e).end
-orient_order Plus s e h = h
-orient_order Minus s e h = omega arith
 
 none_parts : (t : Transcript) (chromosome s e : ℕ) → interval_refusal t chromosome s e ≡ 0 → (admission t ≡ 0) × (bad_interval s e ≡ false)
 unfolding question_refusal
@@ -65,5 +58,4 @@ ready t chromosome s e a u h g =
       exons = ap (λ (t : Transcript). (oriented t).exons) k.same;
       start_low = omega arith;
       end_low = omega arith;
-      order = orient_order t.model.strand s e w.2;
     }

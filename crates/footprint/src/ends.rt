@@ -17,18 +17,16 @@ use transcript::{Intervals, Strand, Transcript};
 
 // Whether the gap holds an end base of q; of an insertion, the bases on both its sides.
 pub(crate) fn holds_end(q: Span, gap: Span) -> bool
-    requires { q.start ≤ q.end }
     ensures { result ≡ holds_end (span_of q) (span_of gap) }
 {
     if q.start == q.end {
         return gap.start < q.start && q.start < gap.end;
     }
-    lies_in(q.start, gap.start, gap.end) || lies_in(q.end - 1, gap.start, gap.end)
+    lies_in(q.start, gap.start, gap.end) || lies_in(q.end.saturating_sub(1), gap.start, gap.end)
 }
 
 // Whether the gap is short and holds an end of q.
 pub(crate) fn ends_in(q: Span, gap: Span) -> bool
-    requires { q.start ≤ q.end }
     ensures { result ≡ ends_in (span_of q) (span_of gap) }
 {
     is_frameshift_gap(gap) && holds_end(q, gap)
@@ -38,7 +36,6 @@ pub(crate) fn ends_in(q: Span, gap: Span) -> bool
 pub(crate) fn endpoint_of(exons: Intervals, strand: Strand, q: Span) -> Option<u16>
     requires even { length exons.starts.now ≡ length exons.ends.now }
     requires few { length exons.starts.now ≤ max_exons }
-    requires ordered { q.start ≤ q.end }
     ensures { (t : Oriented)
         → t.exons ≡ oriented_in strand exons.entry
         → result ≡ frameshift_intron_endpoint t (span_of q) }

@@ -40,7 +40,8 @@ pub(crate) fn gap_at(exons: Intervals, strand: Strand, i: usize) -> Span
 pub(crate) fn is_frameshift_gap(gap: Span) -> bool
     ensures { result ≡ is_frameshift_gap (span_of gap) }
 {
-    gap.start < gap.end && gap.end - gap.start <= 13
+    let bases = gap.end.saturating_sub(gap.start);
+    0 < bases && bases <= 13
 }
 
 // Whether a gap of the exons has 1 to 13 bases.

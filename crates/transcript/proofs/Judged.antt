@@ -21,8 +21,9 @@ use Rattle.transcript.specs.Limits.{max_exons, coordinate_limit}
 use Rattle.transcript.specs.Transcript.{transcript_of, exons_of, even_lists, cds_start, cds_end}
 use Rattle.transcript.specs.Orient.{orient}
 use Rattle.transcript.specs.Admission.{bad_numbers, bad_exon, over_limit, bad_scalars, ascending, not_outer, bad_cds_bounds, index_fault, admission}
-use Rattle.transcript.specs.code.Lent.{holds, holds_none, bad_listed, oriented_in, phase_over, pad_of_phases}
-use Rattle.transcript.specs.code.Judged.{bad_lengths, bad_lent, IsCounted, IsBounded, order_fault, frame_fault, lent_cds_fault, lent_none}
+use Rattle.transcript.specs.code.Lent.{holds, holds_none, bad_listed, oriented_in, phases_over, pad_of_phases}
+use Rattle.transcript.proofs.LentSegments.{phases_any}
+use Rattle.transcript.specs.code.Judged.{bad_lengths, bad_lent, IsCounted, IsBounded, order_fault, frame_fault, lent_cds_fault, segments_fault, lent_none}
 use Rattle.transcript.proofs.Listed.{any_exons}
 use Rattle.transcript.proofs.LentAdmission.{even_parts, lent_uneven, lent_admission}
 
@@ -39,6 +40,9 @@ regroup false false false false false true g later = refl
 regroup false false false false false false true later = refl
 regroup false false false false false false false later = refl
 
+then_else : (a b c : ℕ) → or_else (or_else a b) c ≡ or_else a (or_else b c)
+then_else a b c = on_test (eqb a 0) (λ h. rw h) (λ h. rw (h, h))
+
 module _ (t : Lent) where
   abbrev none_holds : Bool
   none_holds = list_any (lent_none t.segments.bases) t.selenocysteine.now
@@ -47,11 +51,8 @@ module _ (t : Lent) where
   abbrev pub from_13 : ℕ
   from_13 = refuse none_holds 13 0
 
-  abbrev pub from_10 : ℕ
-  from_10 = or_else (lent_cds_fault t) from_13
-
   abbrev pub from_8 : ℕ
-  from_8 = or_else (index_fault (length t.exons.starts.now) [] t.segments.exon_indexes.now) from_10
+  from_8 = or_else (segments_fault t) from_13
 
   abbrev pub from_5 : ℕ
   from_5 = or_else (frame_fault t) from_8
@@ -64,6 +65,12 @@ module _ (t : Lent) where
 
   abbrev pub from_1 : ℕ
   from_1 = or_else (refuse (bad_lengths t) 1 0) from_2
+
+  abbrev named : ℕ
+  named = index_fault (length t.exons.starts.now) [] t.segments.exon_indexes.now
+
+  abbrev cut : ℕ
+  cut = lent_cds_fault t
 
   abbrev even : Bool
   even = even_lists t.exons.starts.now t.exons.ends.now t.segments.phases.now t.segments.exon_indexes.now t.segments.bases.starts.now t.segments.bases.ends.now
@@ -78,10 +85,10 @@ module _ (t : Lent) where
   pub admission_judged : admission (transcript_of t) ≡ from_1
   admission_judged = on_test even
       (λ e. lent_admission t.model t.exons.starts.now t.exons.ends.now t.segments.phases.now t.segments.exon_indexes.now t.segments.bases.starts.now t.segments.bases.ends.now t.selenocysteine.now e
-      ∙ rw (same_2, same_13, e) (regroup (bad_numbers t.model.exon_count (length t.exons.starts.now) (length t.segments.bases.starts.now) (length t.selenocysteine.now)) (bad_lent t)
+      ∙ rw (then_else named cut from_13, same_2, same_13, sym (phases_any t.segments.phases.now), e) (regroup (bad_numbers t.model.exon_count (length t.exons.starts.now) (length t.segments.bases.starts.now) (length t.selenocysteine.now)) (bad_lent t)
       (not (ascending 0 (oriented_in t.model.strand t.exons))) (not_outer (orient t.model.strand t.model.tx_start t.model.tx_end) (oriented_in t.model.strand t.exons))
-      (bad_cds_bounds t.model.cds (ltb 0 (length t.segments.bases.starts.now))) (list_any phase_over t.segments.phases.now)
-      (not (eqb (pad_of_phases t.segments.phases.now) 0) && t.model.cds_start_complete) from_8))
+      (bad_cds_bounds t.model.cds (ltb 0 (length t.segments.bases.starts.now))) (phases_over t.segments.phases.now)
+      (not (eqb (pad_of_phases t.segments.phases.now) 0) && t.model.cds_start_complete) (or_else named (or_else cut from_13))))
       (λ e. lent_uneven t.model t.exons.starts.now t.exons.ends.now t.segments.phases.now t.segments.exon_indexes.now t.segments.bases.starts.now t.segments.bases.ends.now t.selenocysteine.now e ∙ rw e)
 
   pub counted : bad_lengths t ≡ false → IsCounted t

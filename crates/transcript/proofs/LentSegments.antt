@@ -2,12 +2,13 @@
 -- Assumes nothing.
 use Prim.Native.Nat.{ℕ, suc}
 use mathlib.Core.Path.{◌≡◌, refl, sym, ◌∙◌, ap}
-use mathlib.Core.Bool.{false, not}
+use mathlib.Core.Bool.{Bool, false, not, ◌||◌, or_assoc, or-false}
 use mathlib.Core.List.{List, [], ◌∷◌, map}
 use native.Mathlib.Omega.{arith}
 use lib.ListN.{length}
 use lib.Dec.{ltb}
 use borrow.Author.Tests.{lt-ltb, ltb-false}
+use Rattle.std.specs.List.{fold}
 use Rattle.common.specs.Lists.{any}
 use Rattle.common.proofs.TestParts.{or_false}
 use Rattle.common.proofs.Lists.{any_none, any_map, any_same}
@@ -19,7 +20,7 @@ use Rattle.transcript.specs.Orient.{Interval, orient, orient_base, orient_exon, 
 use Rattle.transcript.specs.Bases.{inside_any}
 use Rattle.transcript.specs.Admission.{bad_exon, bad_segment, over_two, index_of, in_none}
 use Rattle.transcript.specs.Cuts.{Cut, cut_at, cut_of}
-use Rattle.transcript.specs.code.Lent.{holds, holds_none, phase_over, pad_of_phases, listed_cuts}
+use Rattle.transcript.specs.code.Lent.{holds, holds_none, phase_over, phases_over, pad_of_phases, listed_cuts}
 use Rattle.transcript.proofs.Orient.{inside_orient}
 
 -- lists of one length
@@ -74,3 +75,11 @@ pub none_oriented : (σ : Strand) (xs : List Exon) (bs : List ℕ) → any bad_e
 none_oriented σ xs bs h =
     any_map (in_none (map (orient_exon σ) xs)) (orient_base σ) bs
     ∙ any_same (λ b. in_none (map (orient_exon σ) xs) (orient_base σ b)) (holds_none xs) bs (λ b. sym (ap not (holds_oriented σ xs b h)))
+
+-- phases that are looked at one after the other
+pub phases_any : (ps : List ℕ) → phases_over ps ≡ any phase_over ps
+phases_any ps = gathered false ps
+  where
+    gathered : (b : Bool) (ps : List ℕ) → fold (λ b p. b || phase_over p) b ps ≡ (b || any phase_over ps)
+    gathered b [] = sym (or-false b)
+    gathered b (p ∷ ps) = gathered (b || phase_over p) ps ∙ or_assoc b (phase_over p) (any phase_over ps)

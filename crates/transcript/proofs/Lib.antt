@@ -3,6 +3,8 @@ pub mod Ascends
 pub mod Cuts
 pub mod Cutting
 pub mod Facts
+pub mod Whole
+pub mod Segmented
 pub mod Admitted
 pub mod Between
 pub mod Listed
@@ -18,3 +20,4 @@ pub mod Asking
 pub mod NumbersGiven
 pub mod Judged
 pub mod OnParts
+pub mod Lending

@@ -1,4 +1,4 @@
-// Refusals 10 to 12: the first and the last coding base, and the segments against the exons.
+// Refusals 8 to 12: the segments against the exons and the CDS.
 ghost use Rattle.std.specs.Prelude.{◌≡◌, true, false, ◌<◌, length, get_or};
 ghost use Rattle.common.specs.Lists.{any};
 ghost use Rattle.common.specs.Refusal.{outcome};
@@ -6,10 +6,11 @@ ghost use Rattle.transcript.specs.Orient.{interval, orient};
 ghost use Rattle.transcript.specs.Admission.{bad_exon};
 ghost use Rattle.transcript.specs.Cuts.{cut_at, cuts, same_cut, same_cuts};
 ghost use Rattle.transcript.specs.code.Lent.{exons_in, oriented_in, cuts_in, IsCuttable, cds_fault};
-ghost use Rattle.transcript.specs.code.Judged.{IsCounted, IsBounded, frame_fault, lent_cds_fault};
+ghost use Rattle.transcript.specs.code.Judged.{IsCounted, IsBounded, frame_fault, segments_fault};
 
+use super::order::bad_bounds;
 use super::oriented::{end_within, first_base, last_base, start_within};
-use super::segments::holds_base;
+use super::segments::{holds_base, judge_indexes};
 use super::{CdsBounds, CdsSegments, Intervals, Strand, Transcript};
 use common::refusal::Refusal;
 
@@ -92,19 +93,27 @@ pub(crate) fn judge_cds(
     Ok(())
 }
 
-// 10, 11, 12 of a transcript, which has neither bounds nor segments where it is not coding.
+// 8 to 12: the segments. Where they span the CDS and are its cuts nothing is at fault, and no fault is looked for, which takes longer.
 pub(crate) fn judge_segments(transcript: &Transcript) -> Result<(), Refusal>
     requires known { IsCounted transcript.now × IsBounded transcript.now }
     requires framed { frame_fault transcript.now ≡ 0 }
-    ensures { result ≡ outcome (lent_cds_fault transcript.now) tt }
+    ensures { result ≡ outcome (segments_fault transcript.now) tt }
 {
     let Some(cds) = transcript.model.cds else {
         return Ok(());
     };
-    judge_cds(
-        transcript.exons,
-        transcript.model.strand,
-        cds,
-        transcript.segments,
-    )
+    let exons = transcript.exons;
+    let segments = transcript.segments;
+    let strand = transcript.model.strand;
+    if !bad_bounds(
+        segments.bases,
+        strand,
+        cds.cds_genomic_start,
+        cds.cds_genomic_end,
+    ) && are_cuts(exons, strand, cds, segments)
+    {
+        return Ok(());
+    }
+    judge_indexes(exons.starts.len(), segments.exon_indexes)?;
+    judge_cds(exons, strand, cds, segments)
 }

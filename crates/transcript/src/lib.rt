@@ -1,6 +1,7 @@
 // A transcript as it is handed in, and whether it is admitted. Coordinates are 0-based and half-open.
 #![tactic(auto)]
 
+pub mod admission;
 mod coding;
 pub mod limits;
 pub mod order;
@@ -16,7 +17,7 @@ use coding::judge_segments;
 use common::refusal::Refusal;
 use limits::{judge_coordinates, judge_counts};
 use order::{judge_exons, judge_frame};
-use segments::{judge_indexes, judge_selenocysteine};
+use segments::judge_selenocysteine;
 
 #[derive(Clone, Copy, PartialEq, Eq)]
 pub enum Strand {
@@ -64,7 +65,7 @@ pub struct Intervals<'a> {
     pub ends: &'a [u64],
 }
 
-// CDS segments, lent as a list for each field.
+// CDS segments, lent as a list for each field: so callers in C lend them.
 #[derive(Clone, Copy)]
 pub struct CdsSegments<'a> {
     pub phases: &'a [u8],
@@ -89,10 +90,6 @@ pub fn admit(transcript: &Transcript) -> Result<(), Refusal>
     judge_coordinates(transcript)?;
     judge_exons(transcript)?;
     judge_frame(transcript)?;
-    judge_indexes(
-        transcript.exons.starts.len(),
-        transcript.segments.exon_indexes,
-    )?;
     judge_segments(transcript)?;
     judge_selenocysteine(transcript)
 }

@@ -17,7 +17,8 @@ const LIMIT: u64 = 1_000_000_000;
 // 1: whether lists of one thing have one length.
 pub(crate) fn are_even(exons: Intervals, segments: CdsSegments) -> bool
     ensures { let bases = segments.entry.bases in
-        result ≡ even_lists exons.entry.starts.now exons.entry.ends.now segments.entry.phases.now segments.entry.exon_indexes.now bases.starts.now bases.ends.now }
+        result ≡ even_lists exons.entry.starts.now exons.entry.ends.now
+        segments.entry.phases.now segments.entry.exon_indexes.now bases.starts.now bases.ends.now }
 {
     let bases = segments.bases;
     let n = bases.starts.len();

@@ -1,12 +1,11 @@
 // Refusals 3 to 7: the order of the exons, the outer bounds, the CDS bounds, the phases and the pad.
 ghost use Rattle.std.specs.Prelude.{◌≡◌, false, not, ◌&&◌, ◌≤◌, ◌<◌, length, eqb};
-ghost use Rattle.std.specs.List.{list_any};
 ghost use Rattle.common.specs.Lists.{any};
 ghost use Rattle.common.specs.Refusal.{outcome};
 ghost use Rattle.transcript.specs.Limits.{coordinate_limit};
 ghost use Rattle.transcript.specs.Orient.{orient};
 ghost use Rattle.transcript.specs.Admission.{bad_exon, ascending, not_outer, bad_cds_bounds};
-ghost use Rattle.transcript.specs.code.Lent.{exons_in, oriented_in, phase_over, pad_of_phases};
+ghost use Rattle.transcript.specs.code.Lent.{exons_in, oriented_in, phases_over, pad_of_phases};
 ghost use Rattle.transcript.specs.code.Judged.{IsCounted, IsBounded, order_fault, frame_fault};
 
 use super::oriented::{end_within, start_within};
@@ -14,6 +13,7 @@ use super::{CdsBounds, Intervals, Strand, Transcript};
 use common::refusal::Refusal;
 
 // Whether each exon starts at or after the end of the one before it, in strand order.
+// What lists have so far is found step by step while a transcript is judged: no type holds before Admitted.
 pub(crate) fn in_order(exons: Intervals, strand: Strand) -> bool
     requires even { length exons.starts.now ≡ length exons.ends.now }
     requires good_edges { any bad_exon (exons_in exons) ≡ false }
@@ -66,11 +66,11 @@ pub fn pad_of(phases: &[u8]) -> u8
     }
 }
 
-// 6: a phase over 2.
+// 6: a phase over 2. All are looked at, so that the compiler takes many in one step.
 fn bad_phases(phases: &[u8]) -> bool
-    ensures { result ≡ list_any phase_over phases.now }
+    ensures { result ≡ phases_over phases.now }
 {
-    phases.iter().any(|phase| 2 < *phase)
+    phases.iter().fold(false, |bad, phase| bad | (2 < *phase))
 }
 
 // 7: a pad that is not 0 where the start is complete.

@@ -1,4 +1,4 @@
-// Oriented coordinates: the only functions that name a strand.
+// Oriented coordinates: the rule of a strand, by match, which no derive or method of std has.
 ghost use Rattle.std.specs.Prelude.{◌≡◌, ◌-◌, ◌≤◌, ◌<◌};
 ghost use Rattle.transcript.specs.Limits.{top, coordinate_limit};
 ghost use Rattle.transcript.specs.Orient.{orient, orient_base};

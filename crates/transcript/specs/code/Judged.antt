@@ -1,7 +1,7 @@
 -- The refusals of a transcript that is lent, in the order in which the code judges them, as tests of its lists.
-use Rattle.std.specs.Prelude.{ℕ, ◌≤◌, ◌<◌, ◌≡◌, length, Bool, false, not, ◌&&◌, ◌||◌, ltb, eqb}
+use Rattle.std.specs.Prelude.{ℕ, ◌≤◌, ◌<◌, ◌≡◌, [], length, Bool, false, not, ◌&&◌, ◌||◌, ltb, eqb}
 use Rattle.std.specs.List.{list_any}
-use Rattle.common.specs.Refuse.{refuse}
+use Rattle.common.specs.Refuse.{refuse, or_else}
 use Rattle.common.specs.Lists.{any}
 use Rattle.transcript.specs.declared.Transcript.{Transcript as Lent}
 use Rattle.transcript.specs.declared.Intervals.{Intervals}
@@ -9,8 +9,8 @@ use Rattle.transcript.specs.Limits.{max_exons, coordinate_limit}
 use Rattle.transcript.specs.Transcript.{even_lists, cds_start, cds_end}
 use Rattle.transcript.specs.Orient.{interval, orient, orient_bounds}
 use Rattle.transcript.specs.Bases.{inside}
-use Rattle.transcript.specs.Admission.{bad_numbers, bad_edges, bad_exon, over_limit, bad_scalars, ascending, not_outer, bad_cds_bounds}
-use Rattle.transcript.specs.code.Lent.{exons_in, oriented_in, any_lent, cuts_in, phase_over, pad_of_phases, cds_fault}
+use Rattle.transcript.specs.Admission.{bad_numbers, bad_edges, bad_exon, over_limit, bad_scalars, ascending, not_outer, bad_cds_bounds, index_fault}
+use Rattle.transcript.specs.code.Lent.{exons_in, oriented_in, any_lent, cuts_in, phases_over, pad_of_phases, cds_fault}
 
 -- 1
 abbrev pub bad_lengths : Lent → Bool
@@ -51,13 +51,17 @@ order_fault t =
 abbrev pub frame_fault : Lent → ℕ
 frame_fault t =
     refuse (bad_cds_bounds t.model.cds (ltb 0 (length t.segments.bases.starts.now))) 5
-    (refuse (list_any phase_over t.segments.phases.now) 6
+    (refuse (phases_over t.segments.phases.now) 6
     (refuse (not (eqb (pad_of_phases t.segments.phases.now) 0) && t.model.cds_start_complete) 7 0))
 
 -- 10, 11, 12
 abbrev pub lent_cds_fault : Lent → ℕ
 lent_cds_fault t =
     cds_fault (ltb 0 (length t.segments.bases.starts.now)) (orient_bounds t.model.strand t.model.cds) (oriented_in t.model.strand t.exons) (cuts_in t.model.strand t.segments)
+
+-- 8 to 12
+abbrev pub segments_fault : Lent → ℕ
+segments_fault t = or_else (index_fault (length t.exons.starts.now) [] t.segments.exon_indexes.now) (lent_cds_fault t)
 
 -- 13: no interval holds the base
 abbrev pub lent_none : Intervals → ℕ → Bool

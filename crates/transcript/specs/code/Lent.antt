@@ -1,7 +1,7 @@
 -- Tests over lists that are lent apart, as the code reads them.
 use Rattle.std.specs.Prelude.{ℕ, ◌-◌, ◌%◌, ◌≤◌, ◌≡◌, length, Bool, false, not, ◌&&◌, ◌||◌, List, [], ◌∷◌, map, ltb}
 use Rattle.common.specs.Refuse.{refuse}
-use Rattle.std.specs.List.{list_any, zip}
+use Rattle.std.specs.List.{list_any, fold, zip}
 use Rattle.common.specs.Lists.{any}
 use Rattle.transcript.specs.declared.Strand.{Strand}
 use Rattle.transcript.specs.declared.TranscriptModel.{TranscriptModel}
@@ -45,6 +45,10 @@ holds_none xs p = not (any (holds p) xs)
 
 abbrev pub phase_over : ℕ → Bool
 phase_over p = ltb 2 p
+
+-- some phase is over 2, gathered from the first to the last
+abbrev pub phases_over : List ℕ → Bool
+phases_over ps = fold (λ b p. b || phase_over p) false ps
 
 -- segments lent apart, as cuts
 unfoldable pub listed_cuts : Strand → List ℕ → List ℕ → List ℕ → List Cut

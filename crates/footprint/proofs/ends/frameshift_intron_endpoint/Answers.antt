@@ -1,8 +1,8 @@
-use Rattle.std.proofs.Common.{refl, sym, ◌∙◌, ap, arith}
+use Rattle.std.proofs.Common.{refl, sym, ◌∙◌, ap}
 use Rattle.std.proofs.lemmas.Result.{err_from_is_err_and}
 use Rattle.common.proofs.Outcome.{answered, passed_on}
 use Rattle.transcript.specs.Transcript.{transcript_of}
-use Rattle.transcript.specs.Orient.{Interval, orient, oriented}
+use Rattle.transcript.specs.Orient.{orient, oriented}
 use Rattle.transcript.specs.Question.{interval_refusal}
 use Rattle.footprint.specs.ShortIntron.{frameshift_intron_endpoint}
 use Rattle.footprint.specs.Question.{short_intron}
@@ -30,14 +30,6 @@ pub endpoint_of-requires-clause-few : goal.endpoint_of-requires-clause-few
 endpoint_of-requires-clause-few c =
     let k = ready c.args.transcript.now c.args.chromosome c.args.start c.args.end c.judge_interval.result c.in_ok-judge_interval.field-0 c.judge_interval.ensures c.in_ok-judge_interval.was in
     k.few
-
-pub endpoint_of-requires-clause-ordered : goal.endpoint_of-requires-clause-ordered
-endpoint_of-requires-clause-ordered c =
-    let k = ready c.args.transcript.now c.args.chromosome c.args.start c.args.end c.judge_interval.result c.in_ok-judge_interval.field-0 c.judge_interval.ensures c.in_ok-judge_interval.was in
-    let f = ap (λ (x : Interval). x.start) c.span_of-q.ensures in
-    let l = ap (λ (x : Interval). x.end) c.span_of-q.ensures in
-    let o = k.order in
-    omega arith
 
 pub returns : goal.returns
 unfolding short_intron

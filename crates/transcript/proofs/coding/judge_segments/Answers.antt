@@ -1,0 +1,11 @@
+use Rattle.std.proofs.Common.{◌∙◌, sym}
+use Rattle.common.proofs.Outcome.{answered}
+use Rattle.transcript.proofs.Segmented.{none_segmented, some_segmented}
+use Rattle.transcript.proofs.coding.judge_segments.Goals as goal
+
+pub returns-in_default : goal.returns-in_default
+returns-in_default c = answered tt _ (sym (none_segmented c.args.transcript.now c.requires.known.0 c.requires.framed c.in_default.is))
+
+pub returns-then-are_cuts : goal.returns-then-are_cuts
+returns-then-are_cuts c = answered tt _ (sym (some_segmented c.args.transcript.now c.requires.known.0 c.requires.framed c.requires.known.1 c.in-Some.cds c.in-Some.is
+    (sym c.bad_bounds.ensures ∙ c.if-not-bad_bounds.true) (sym c.are_cuts.ensures ∙ c.if-are_cuts.true)))
