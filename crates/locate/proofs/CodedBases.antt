@@ -15,9 +15,6 @@ use Rattle.transcript.specs.Limits.{coordinate_limit}
 use Rattle.transcript.specs.Orient.{Interval, orient_base}
 use Rattle.transcript.specs.Bases.{inside_any}
 use Rattle.transcript.specs.Admission.{over_limit, in_none}
-use Rattle.transcript.proofs.Listed.{oriented_length}
-use Rattle.transcript.specs.code.Lent.{lent_exons}
-use Rattle.locate.specs.code.Search.{Ready}
 use Rattle.locate.specs.code.Coded.{Coded}
 
 -- a test that no element passes, at an index
@@ -29,21 +26,16 @@ none_at f (x ∷ xs) (suc i) h l = none_at f xs i (any_none f x xs h).1 (omega a
 pub base_low : (bs : List ℕ) (i : ℕ) → any over_limit bs ≡ false → i < length bs → get_or bs i 0 ≤ coordinate_limit
 base_low bs i h l = ltb-false coordinate_limit (get_or bs i 0) (none_at over_limit bs i h l)
 
-some_interval : (xs : List Interval) (p : ℕ) → inside_any p xs ≡ true → 0 < length xs
+-- a base of one of them: there is one
+pub some_interval : (xs : List Interval) (p : ℕ) → inside_any p xs ≡ true → 0 < length xs
 some_interval [] p h = absurd (true_false (sym h))
 some_interval (x ∷ xs) p h = omega arith
 
-module _ (σ : Strand) (gs ge sums bs : List ℕ) (c : Coded σ gs ge sums bs) where
-  pub base_inside : (i : ℕ) → i < length bs → inside_any (orient_base σ (get_or bs i 0)) (lent_exons σ gs ge) ≡ true
+module _ (σ : Strand) (xs : List Interval) (sums bs : List ℕ) (c : Coded σ xs sums bs) where
+  pub base_inside : (i : ℕ) → i < length bs → inside_any (orient_base σ (get_or bs i 0)) xs ≡ true
   base_inside i l = not-false _ (inside bs i c.bases_held l)
     where
-      inside : (bs : List ℕ) (i : ℕ) → any (in_none (lent_exons σ gs ge)) (map (orient_base σ) bs) ≡ false → i < length bs → not (inside_any (orient_base σ (get_or bs i 0)) (lent_exons σ gs ge)) ≡ false
+      inside : (bs : List ℕ) (i : ℕ) → any (in_none xs) (map (orient_base σ) bs) ≡ false → i < length bs → not (inside_any (orient_base σ (get_or bs i 0)) xs) ≡ false
       inside [] i h l = absurd (omega arith)
-      inside (x ∷ xs) zero h l = (any_none (in_none (lent_exons σ gs ge)) (orient_base σ x) (map (orient_base σ) xs) h).0
-      inside (x ∷ xs) (suc i) h l = inside xs i (any_none (in_none (lent_exons σ gs ge)) (orient_base σ x) (map (orient_base σ) xs) h).1 (omega arith)
-
-  pub ready_coded : (p : ℕ) → inside_any p (lent_exons σ gs ge) ≡ true → Ready σ gs ge
-  ready_coded p h =
-      let s = some_interval (lent_exons σ gs ge) p h in
-      let n = oriented_length σ gs ge c.even in
-      record { some = omega arith; few = c.few; even = c.even; edges = c.edges; order = c.order }
+      inside (x ∷ ys) zero h l = (any_none (in_none xs) (orient_base σ x) (map (orient_base σ) ys) h).0
+      inside (x ∷ ys) (suc i) h l = inside ys i (any_none (in_none xs) (orient_base σ x) (map (orient_base σ) ys) h).1 (omega arith)

@@ -1,5 +1,6 @@
 -- A place is CdsExon exactly where a segment holds the base, in oriented coordinates.
 -- Assumes nothing.
+use Rattle.std.proofs.Common.{rules}
 use Prim.Native.Nat.{ℕ, suc, ◌+◌, ◌-◌, ◌≤◌}
 use mathlib.Core.Path.{◌≡◌, refl, sym, ◌∙◌, ap}
 use mathlib.Core.Bool.{Bool, true, false, cond, not, ◌&&◌, and-false, and-true as and-true-right}
@@ -50,22 +51,14 @@ found_exon (x ∷ xs) p a l =
     (λ k. rw (k, le-leb x.start p l) (found_after 0 x.end xs p a.2 (ltb-false p x.end k)))
 
 -- an intron base is not a coding one
-is_cond : (b : Bool) (x y : VariantLocation) → is_cds_exon (cond b x y) ≡ cond b (is_cds_exon x) (is_cds_exon y)
-is_cond true x y = refl
-is_cond false x y = refl
-
-cond_same : (b c : Bool) → cond b c c ≡ c
-cond_same true c = refl
-cond_same false c = refl
-
 not_either : (b : Bool) (x y : VariantLocation) → is_cds_exon x ≡ false → is_cds_exon y ≡ false → is_cds_exon (cond b x y) ≡ false
 not_either true x y f g = f
 not_either false x y f g = g
 
 pub intron_not_coding : (r : Ranges) (coding : Bool) (i gap d a : ℕ) → is_cds_exon (classify_distances r coding i gap d a) ≡ false
 unfolding classify_distances
-intron_not_coding r true i gap d a = simp (is_cond, cond_same)
-intron_not_coding r false i gap d a = simp (is_cond, cond_same)
+intron_not_coding r true i gap d a = search (rules, not_either)
+intron_not_coding r false i gap d a = search (rules, not_either)
 
 -- a base of an exon: coding where there is a CDS that holds it
 pub exonic_coding : (t : Oriented) (p i : ℕ) (mark : Bool) → is_cds_exon (exonic t p i mark) ≡ (t.coding && inside p t.cds)

@@ -102,15 +102,11 @@ module _ (m : TranscriptModel) (ss es ps is gs ge bs : List ℕ) (h : admission 
         let f = q.1 in
         omega arith
 
-    pub coded : Coded m.strand gs ge sums bs
+    pub coded : Coded m.strand (lent_exons m.strand gs ge) sums bs
     unfolding oriented
     coded =
         let x = ad m ss es ps is gs ge bs h in
         record {
-          few = x.few_segments;
-          even = x.even_segments_lem.ends;
-          edges = x.segment_edges;
-          order = x.segment_order;
           summed = coding;
           few_bases = x.few_bases;
           bases_low = x.bases_low;

@@ -56,7 +56,10 @@ module _ (m : TranscriptModel) (ss es ps is gs ge bs : List ℕ) (h : admission 
   segment_count = ap length segments_are ∙ oriented_length m.strand gs ge ad.even_segments_lem.ends
 
   pub ready : Ready m.strand ss es
-  ready = record { some = ad.some; few = ad.few; even = ad.even; edges = ad.edges; order = ad.order }
+  ready = record { few = ad.few; even = ad.even; edges = ad.edges; order = ad.order }
+
+  pub segments_ready : Ready m.strand gs ge
+  segments_ready = record { few = ad.few_segments; even = ad.even_segments_lem.ends; edges = ad.segment_edges; order = ad.segment_order }
 
   pub coding_is : ltb 0 (length gs) ≡ (oriented (lent m ss es ps is gs ge bs)).coding
   unfolding oriented

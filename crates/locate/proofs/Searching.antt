@@ -181,10 +181,9 @@ module _ (σ : Strand) (ss es : List ℕ) (ad : Ready σ ss es) where
 
 -- the answers of the search, from the number of exons that have started
 module _ (σ : Strand) (ss es : List ℕ) (ad : Ready σ ss es) (p n : ℕ) (le : n ≤ length ss) (st : Started (lent_exons σ ss es) p n) where
-  pub found_some : first_start (lent_exons σ ss es) ≤ p → 0 < n
-  found_some h =
+  pub found_some : 0 < length ss → first_start (lent_exons σ ss es) ≤ p → 0 < n
+  found_some s h =
       let c = count σ ss es ad in
-      let s = ad.some in
       let f = first_at (lent_exons σ ss es) (omega arith) in
       some n refl (λ z. (let r = st.after 0 (omega arith) (omega arith) in omega arith))
     where

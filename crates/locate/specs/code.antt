@@ -1,4 +1,5 @@
 pub mod Coded
 pub mod Exonic
+pub mod Ordered
 pub mod Search
 pub mod Sums

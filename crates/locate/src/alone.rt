@@ -3,7 +3,6 @@ ghost use Rattle.std.specs.Prelude.{◌≡◌, ◌≤◌, length};
 ghost use Rattle.transcript.specs.Limits.{top};
 ghost use Rattle.transcript.specs.Transcript.{transcript_of};
 ghost use Rattle.transcript.specs.Orient.{interval, oriented};
-ghost use Rattle.transcript.specs.Admission.{admission};
 ghost use Rattle.locate.specs.Place.{is_exonic_splice_region, exonic, locate};
 ghost use Rattle.locate.specs.code.Search.{Holds};
 
@@ -11,28 +10,28 @@ use super::exonic::{exonic_place, first_index, is_exonic_splice_region};
 use super::intronic::classify_intronic;
 use super::lengths::{bases_before, length_before};
 use super::place::{downstream_place, upstream_place};
-use super::search::find_exon_or_intron;
+use super::search::Ordered;
 use super::{ExonOrIntron, VariantLocation};
 use footprint::Ranges;
-use transcript::Transcript;
+use transcript::admission::Admitted;
 use transcript::limits::{end_or_zero, start_or_zero};
 use transcript::order::pad_of;
 use transcript::oriented::{end_of, start_of};
 
 // The place of the base p of exon i, [start, end).
 pub(crate) fn exon_alone(
-    transcript: &Transcript,
+    admitted: Admitted,
     i: usize,
     start: u64,
     end: u64,
     p: u64,
 ) -> VariantLocation
-    requires admitted { admission (transcript_of transcript.now) ≡ 0 }
-    requires holds { Holds (oriented (transcript_of transcript.now)) i start end p }
-    ensures { let t = transcript_of transcript.now in
+    requires holds { Holds (oriented (transcript_of admitted.transcript.now)) i start end p }
+    ensures { let t = transcript_of admitted.entry.transcript.now in
         let mark = is_exonic_splice_region (length (oriented t).exons) i (interval start end) p in
         result ≡ exonic (oriented t) p i mark }
 {
+    let transcript = admitted.transcript;
     let mark = is_exonic_splice_region(transcript.exons.starts.len(), i, start, end, p);
     let count = transcript.segments.bases.starts.len();
     if count == 0 {
@@ -49,21 +48,24 @@ pub(crate) fn exon_alone(
     let b = end_of(strand, s, e);
     let first = first_index(transcript.segments.exon_indexes);
     let pad = pad_of(transcript.segments.phases) as u32;
-    let before = bases_before(transcript.exons, strand, i, p);
-    let utr5 = bases_before(transcript.exons, strand, first as usize, a);
+    let exons = Ordered::exons(admitted);
+    let before = bases_before(exons, i, p);
+    let utr5 = bases_before(exons, first as usize, a);
     let coding_end = utr5 + length_before(transcript.segments.bases, count);
     exonic_place(
         true, before, utr5, coding_end, pad, first, a, b, p, i as u16, mark,
     )
 }
 
-// The place of p, an oriented coordinate. Not one function with `place_of_base`: that was tried and was slower.
-pub(crate) fn place_alone(ranges: Ranges, transcript: &Transcript, p: u64) -> VariantLocation
-    requires admitted { admission (transcript_of transcript.now) ≡ 0 }
+// The place of p, an oriented coordinate. Apart from `place_of_base`, which places a base of an exon from an index: one function whose
+// answer holds a place or an exon was tried and was slower, and what the two share is shorter than a trait for what they differ in.
+// That p is low is one comparison: a type for it would be unwrapped at each edge, which is a u64.
+pub(crate) fn place_alone(ranges: Ranges, admitted: Admitted, p: u64) -> VariantLocation
     requires low { p ≤ top }
-    ensures { let t = transcript_of transcript.now in
+    ensures { let t = transcript_of admitted.entry.transcript.now in
         result ≡ locate ranges (oriented t) p }
 {
+    let transcript = admitted.transcript;
     let strand = transcript.model.strand;
     let s = transcript.model.tx_start;
     let e = transcript.model.tx_end;
@@ -75,17 +77,10 @@ pub(crate) fn place_alone(ranges: Ranges, transcript: &Transcript, p: u64) -> Va
     if last <= p {
         return downstream_place(ranges, p - last + 1);
     }
-    let found = find_exon_or_intron(transcript.exons, strand, p);
+    let found = Ordered::exons(admitted).find::<true>(p);
     match found {
-        ExonOrIntron::Exon(i, a, b) => exon_alone(transcript, i, a, b, p),
-        ExonOrIntron::Intron(i, a, b) => classify_intronic(
-            ranges,
-            0 < transcript.segments.bases.starts.len(),
-            i as u16,
-            a,
-            b,
-            p,
-        ),
+        ExonOrIntron::Exon(i, a, b) => exon_alone(admitted, i, a, b, p),
+        ExonOrIntron::Intron(i, a, b) => classify_intronic(ranges, transcript, i, a, b, p),
         ExonOrIntron::Outside => VariantLocation::Distal,
     }
 }

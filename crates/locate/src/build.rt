@@ -6,13 +6,14 @@ ghost use Rattle.locate.specs.Index.{indexed};
 use super::LocateIndex;
 use super::index::index_of;
 use common::refusal::Refusal;
-use transcript::{Transcript, admit};
+use transcript::Transcript;
+use transcript::admission::Admitted;
 
 impl LocateIndex {
     pub fn build(transcript: &Transcript) -> Result<LocateIndex, Refusal>
         ensures { result ≡ indexed (transcript_of transcript.now) }
     {
-        admit(transcript)?;
-        Ok(index_of(transcript))
+        let admitted = Admitted::of(transcript)?;
+        Ok(index_of(admitted))
     }
 }

@@ -27,10 +27,7 @@ pub(crate) fn is_exonic_splice_region(n: usize, i: usize, start: u64, end: u64, 
 pub(crate) fn first_index(indexes: &[u16]) -> u16
     ensures { result ≡ head_of indexes.now }
 {
-    if indexes.len() == 0 {
-        return 0;
-    }
-    indexes[0]
+    indexes.first().copied().unwrap_or(0)
 }
 
 // The place of the base p of exon i: of the 5'UTR, the 3'UTR or the CDS.

@@ -3,7 +3,6 @@ ghost use Rattle.std.specs.Prelude.{◌≡◌, cond, ◌+◌, ◌-◌, ◌≤◌
 ghost use Rattle.transcript.specs.Limits.{max_exons};
 ghost use Rattle.transcript.specs.Transcript.{transcript_of};
 ghost use Rattle.transcript.specs.Orient.{oriented};
-ghost use Rattle.transcript.specs.Admission.{admission};
 ghost use Rattle.common.specs.Lists.{any};
 ghost use Rattle.footprint.specs.ShortIntron.{is_frameshift_gap};
 ghost use Rattle.footprint.specs.code.Lent.{gaps_in};
@@ -13,10 +12,11 @@ ghost use Rattle.locate.specs.code.Sums.{ExonSums, CdsSums};
 use super::exonic::first_index;
 use super::positions::utr5_length;
 use super::prefix_sums::sum_up;
+use super::search::Ordered;
 use super::selenocysteine::selenocysteine_codons;
 use super::{IndexScalars, LocateIndex};
 use footprint::has_frameshift_intron;
-use transcript::Transcript;
+use transcript::admission::Admitted;
 use transcript::limits::{end_or_zero, start_or_zero};
 use transcript::oriented::start_of;
 
@@ -34,18 +34,18 @@ pub(crate) fn last_exon(first: u16, segments: usize) -> u16
 // The scalars of the index of an admitted transcript, from its cumulative lengths and whether it has a short intron: apart from the
 // index, since a caller with sums of its own asks for them too.
 pub fn scalars_of(
-    transcript: &Transcript,
+    admitted: Admitted,
     cumulative_exons: &[u32],
     cumulative_cds: &[u32],
     short: bool,
 ) -> IndexScalars
-    requires admitted { admission (transcript_of transcript.now) ≡ 0 }
-    requires sums { let t = transcript_of transcript.now in
+    requires sums { let t = transcript_of admitted.transcript.now in
         ExonSums (oriented t) cumulative_exons.now × CdsSums (oriented t) cumulative_cds.now }
-    requires short { short ≡ any is_frameshift_gap (gaps_in transcript.now.model.strand transcript.now.exons) }
-    ensures { let t = transcript_of transcript.now in
+    requires short { short ≡ any is_frameshift_gap (gaps_in admitted.transcript.now.model.strand admitted.transcript.now.exons) }
+    ensures { let t = transcript_of admitted.entry.transcript.now in
         result ≡ index_scalars (oriented t) }
 {
+    let transcript = admitted.transcript;
     let strand = transcript.model.strand;
     let cds = transcript.model.cds;
     let count = transcript.segments.bases.starts.len();
@@ -60,8 +60,7 @@ pub fn scalars_of(
         total_cds_length: cumulative_cds[count],
         utr5_exonic_len: utr5_length(
             0 < count,
-            transcript.exons,
-            strand,
+            Ordered::exons(admitted),
             cumulative_exons,
             first as usize,
             from,
@@ -73,33 +72,36 @@ pub fn scalars_of(
     }
 }
 
-// The index of an admitted transcript.
-pub fn index_of(transcript: &Transcript) -> LocateIndex
-    requires admitted { admission (transcript_of transcript.now) ≡ 0 }
-    ensures { let t = transcript_of transcript.now in
+// The index of an admitted transcript, built in its place. Inlined, so that a caller's index is not copied.
+#[inline(always)]
+pub fn index_of(admitted: Admitted) -> LocateIndex
+    ensures { let t = transcript_of admitted.entry.transcript.now in
         result ≡ locate_index (oriented t) }
 {
-    let strand = transcript.model.strand;
-    let mut cumulative_exons = [0u32; 513];
-    let mut cumulative_cds = [0u32; 513];
-    sum_up(&mut cumulative_exons, &mut cumulative_cds, transcript);
-    let scalars = scalars_of(
-        transcript,
-        &cumulative_exons,
-        &cumulative_cds,
-        has_frameshift_intron(transcript.exons, strand),
+    let transcript = admitted.transcript;
+    let mut index = LocateIndex {
+        scalars: IndexScalars::default(),
+        cumulative_exons: [0; 513],
+        cumulative_cds: [0; 513],
+        selenocysteine_codons: [0; 64],
+    };
+    sum_up(
+        &mut index.cumulative_exons,
+        &mut index.cumulative_cds,
+        admitted,
+    );
+    index.scalars = scalars_of(
+        admitted,
+        &index.cumulative_exons,
+        &index.cumulative_cds,
+        has_frameshift_intron(transcript.exons, transcript.model.strand),
     );
     let codons = selenocysteine_codons(
-        transcript.segments.bases,
-        strand,
-        &cumulative_cds,
+        &Ordered::segments(admitted),
+        &index.cumulative_cds,
         transcript.selenocysteine,
     );
-    let selenocysteine_codons = codons.numbers;
-    LocateIndex {
-        scalars,
-        cumulative_exons,
-        cumulative_cds,
-        selenocysteine_codons,
-    }
+    let numbers = codons.numbers;
+    index.selenocysteine_codons = numbers;
+    index
 }

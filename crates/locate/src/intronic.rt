@@ -1,11 +1,12 @@
 // The place of an intron base, from its distances to the two exons.
-ghost use Rattle.std.specs.Prelude.{◌≡◌, ◌+◌, ◌-◌, ◌≤◌, ◌<◌};
-ghost use Rattle.transcript.specs.Limits.{top};
+ghost use Rattle.std.specs.Prelude.{◌≡◌, ◌+◌, ◌-◌, ◌≤◌, ◌<◌, length, ltb};
+ghost use Rattle.transcript.specs.Limits.{top, max_exons};
 ghost use Rattle.transcript.specs.Orient.{interval};
 ghost use Rattle.locate.specs.Intronic.{signed_distance, splice_region, deep_intron, classify_distances, classify_intronic};
 
 use super::{SpliceSide, VariantLocation};
 use footprint::Ranges;
+use transcript::Transcript;
 
 // Plus the donor distance where it is at most the acceptor distance, else minus the acceptor distance.
 pub(crate) fn signed_distance(d: u64, a: u64) -> i64
@@ -109,14 +110,23 @@ pub(crate) fn classify_distances(
 // The place of the base p of intron i, [start, end).
 pub(crate) fn classify_intronic(
     ranges: Ranges,
-    coding: bool,
-    i: u16,
+    transcript: &Transcript,
+    i: usize,
     start: u64,
     end: u64,
     p: u64,
 ) -> VariantLocation
-    requires { (start ≤ p) × (p < end) × (end ≤ top) }
-    ensures { result ≡ classify_intronic ranges coding i (interval start end) p }
+    requires { (i < max_exons) × (start ≤ p) × (p < end) × (end ≤ top) }
+    ensures { let coding = ltb 0 (length transcript.now.segments.bases.starts.now) in
+        result ≡ classify_intronic ranges coding i (interval start end) p }
 {
-    classify_distances(ranges, coding, i, end - start, p - start + 1, end - p)
+    let coding = 0 < transcript.segments.bases.starts.len();
+    classify_distances(
+        ranges,
+        coding,
+        i as u16,
+        end - start,
+        p - start + 1,
+        end - p,
+    )
 }

@@ -12,13 +12,13 @@ mod positions;
 mod prefix_sums;
 mod search;
 mod selenocysteine;
-pub mod unordered;
+mod unordered;
 mod variant;
 
 pub use index::{index_of, scalars_of};
 pub use positions::cdna_position;
 pub use prefix_sums::{store_sums, sum_up};
-pub use search::started;
+pub use search::Ordered;
 pub use selenocysteine::selenocysteine_codons;
 pub use variant::locate_variant;
 
@@ -104,13 +104,14 @@ pub struct CdsOffset(pub u32);
 pub struct CdnaPosition(pub u32);
 
 // Codon numbers of up to 64 bases, then zeros.
+// Fixed memory: no Vec.
 #[derive(Clone, Copy)]
 pub struct CodonNumbers {
     pub numbers: [u32; 64],
 }
 
 // The scalars of an index. Without a CDS the numbers of its exons are 0.
-#[derive(Clone, Copy)]
+#[derive(Clone, Copy, Default)]
 pub struct IndexScalars {
     pub cds_start_pad: u32,
     pub exon_count: usize,

@@ -3,7 +3,6 @@ ghost use Rattle.std.specs.Prelude.{◌≡◌, ◌+◌, ◌-◌, ◌≤◌, ◌<
 ghost use Rattle.transcript.specs.Limits.{top};
 ghost use Rattle.transcript.specs.Transcript.{transcript_of};
 ghost use Rattle.transcript.specs.Orient.{interval, oriented};
-ghost use Rattle.transcript.specs.Admission.{admission};
 ghost use Rattle.locate.specs.Index.{index_scalars};
 ghost use Rattle.locate.specs.code.Sums.{ExonSums};
 ghost use Rattle.locate.specs.Place.{is_exonic_splice_region, exonic, locate};
@@ -12,10 +11,10 @@ ghost use Rattle.locate.specs.code.Search.{Holds, upstream_by, downstream_by};
 use super::exonic::{exonic_place, is_exonic_splice_region};
 use super::intronic::classify_intronic;
 use super::positions::offset_at;
-use super::search::find_exon_or_intron;
+use super::search::Ordered;
 use super::{ExonOrIntron, IndexScalars, VariantLocation};
 use footprint::Ranges;
-use transcript::Transcript;
+use transcript::admission::Admitted;
 use transcript::limits::{end_or_zero, start_or_zero};
 use transcript::oriented::{end_of, start_of};
 
@@ -42,7 +41,7 @@ pub(crate) fn downstream_place(ranges: Ranges, d: u64) -> VariantLocation
 
 // The place of the base p of exon i, [start, end).
 pub(crate) fn exon_base(
-    transcript: &Transcript,
+    admitted: Admitted,
     scalars: IndexScalars,
     cumulative_exons: &[u32],
     i: usize,
@@ -50,14 +49,14 @@ pub(crate) fn exon_base(
     end: u64,
     p: u64,
 ) -> VariantLocation
-    requires admitted { admission (transcript_of transcript.now) ≡ 0 }
-    requires indexed { let t = transcript_of transcript.now in
+    requires indexed { let t = transcript_of admitted.transcript.now in
         (scalars ≡ index_scalars (oriented t)) × ExonSums (oriented t) cumulative_exons.now }
-    requires holds { Holds (oriented (transcript_of transcript.now)) i start end p }
-    ensures { let t = transcript_of transcript.now in
+    requires holds { Holds (oriented (transcript_of admitted.transcript.now)) i start end p }
+    ensures { let t = transcript_of admitted.entry.transcript.now in
         let mark = is_exonic_splice_region (length (oriented t).exons) i (interval start end) p in
         result ≡ exonic (oriented t) p i mark }
 {
+    let transcript = admitted.transcript;
     let utr5 = scalars.utr5_exonic_len;
     let pad = scalars.cds_start_pad;
     let before = offset_at(cumulative_exons, i, start, p);
@@ -85,21 +84,21 @@ pub(crate) fn exon_base(
     )
 }
 
-// The place of p, an oriented coordinate.
-pub fn place_of_base(
+// The place of p, an oriented coordinate, with the search that suits bases in order, or in none.
+pub fn place_of_base<const IN_ORDER: bool>(
     ranges: Ranges,
-    transcript: &Transcript,
+    admitted: Admitted,
     scalars: IndexScalars,
     cumulative_exons: &[u32],
     p: u64,
 ) -> VariantLocation
-    requires admitted { admission (transcript_of transcript.now) ≡ 0 }
-    requires indexed { let t = transcript_of transcript.now in
+    requires indexed { let t = transcript_of admitted.transcript.now in
         (scalars ≡ index_scalars (oriented t)) × ExonSums (oriented t) cumulative_exons.now }
     requires low { p ≤ top }
-    ensures { let t = transcript_of transcript.now in
+    ensures { let t = transcript_of admitted.entry.transcript.now in
         result ≡ locate ranges (oriented t) p }
 {
+    let transcript = admitted.transcript;
     let strand = transcript.model.strand;
     let s = transcript.model.tx_start;
     let e = transcript.model.tx_end;
@@ -111,17 +110,10 @@ pub fn place_of_base(
     if last <= p {
         return downstream_place(ranges, p - last + 1);
     }
-    let found = find_exon_or_intron(transcript.exons, strand, p);
+    let found = Ordered::exons(admitted).find::<IN_ORDER>(p);
     match found {
-        ExonOrIntron::Exon(i, a, b) => exon_base(transcript, scalars, cumulative_exons, i, a, b, p),
-        ExonOrIntron::Intron(i, a, b) => classify_intronic(
-            ranges,
-            0 < transcript.segments.bases.starts.len(),
-            i as u16,
-            a,
-            b,
-            p,
-        ),
+        ExonOrIntron::Exon(i, a, b) => exon_base(admitted, scalars, cumulative_exons, i, a, b, p),
+        ExonOrIntron::Intron(i, a, b) => classify_intronic(ranges, transcript, i, a, b, p),
         ExonOrIntron::Outside => VariantLocation::Distal,
     }
 }

@@ -5,13 +5,14 @@ ghost use Rattle.common.specs.Lists.{any};
 ghost use Rattle.transcript.specs.Limits.{top};
 ghost use Rattle.transcript.specs.Transcript.{transcript_of};
 ghost use Rattle.transcript.specs.Orient.{oriented};
-ghost use Rattle.transcript.specs.Admission.{bad_exon, admission};
+ghost use Rattle.transcript.specs.Admission.{bad_exon};
 ghost use Rattle.locate.specs.Index.{cumulative, locate_index};
 ghost use Rattle.transcript.specs.Bases.{sum};
 ghost use Rattle.transcript.specs.code.Lent.{exon_size, exons_in};
 
+use transcript::Intervals;
+use transcript::admission::Admitted;
 use transcript::order::pad_of;
-use transcript::{Intervals, Transcript};
 
 // The lengths of the intervals, summed up from `first` on, stored from a place on.
 pub fn store_sums(sums: &mut [u32], at: usize, intervals: Intervals, first: u32)
@@ -35,15 +36,15 @@ pub fn store_sums(sums: &mut [u32], at: usize, intervals: Intervals, first: u32)
 pub fn sum_up(
     cumulative_exons: &mut [u32; 513],
     cumulative_cds: &mut [u32; 513],
-    transcript: &Transcript,
+    admitted: Admitted,
 )
     requires zeros { (cumulative_exons.old ≡ replicate 513 0) × (cumulative_cds.old ≡ replicate 513 0) }
-    requires admitted { admission (transcript_of transcript.now) ≡ 0 }
-    ensures sums { let t = transcript_of transcript.now in
+    ensures sums { let t = transcript_of admitted.entry.transcript.now in
         let x = locate_index (oriented t) in
         (cumulative_exons.new ≡ x.cumulative_exons) × (cumulative_cds.new ≡ x.cumulative_cds) }
     ensures lengths { (length cumulative_exons.new ≡ 513) × (length cumulative_cds.new ≡ 513) }
 {
+    let transcript = admitted.transcript;
     let pad = pad_of(transcript.segments.phases) as u32;
     store_sums(cumulative_exons, 0, transcript.exons, 0);
     store_sums(cumulative_cds, 0, transcript.segments.bases, pad);

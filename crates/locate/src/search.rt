@@ -1,54 +1,116 @@
-// The exon or intron that holds a base: a binary search over the oriented starts.
-ghost use Rattle.std.specs.Prelude.{◌≡◌, ◌+◌, ◌-◌, ◌≤◌, ◌<◌, length};
+// Intervals that can be searched, and the exon or intron that holds a base: a binary search over the oriented starts.
+ghost use Rattle.std.specs.Prelude.{◌≡◌, ◌≤◌, ◌<◌, length};
 ghost use Rattle.transcript.specs.Bases.{first_start};
 ghost use Rattle.locate.specs.Find.{find_exon_or_intron};
-ghost use Rattle.transcript.specs.code.Lent.{oriented_in};
-ghost use Rattle.locate.specs.code.Search.{Ready, Started, exon_or_intron, FoundAt};
+ghost use Rattle.locate.specs.code.Search.{Ready, Started, LastStart, exon_or_intron, FoundAt};
 
 use super::ExonOrIntron;
+use transcript::admission::Admitted;
 use transcript::oriented::{end_of, start_of};
 use transcript::{Intervals, Strand};
 
-// How many exons start at or before p, an oriented coordinate. What is left shrinks alike on both ways. A step is a jump, which a
-// processor foretells well where bases come in order.
-pub fn started(intervals: Intervals, strand: Strand, p: u64) -> usize
-    requires { Ready strand intervals.starts.now intervals.ends.now }
-    ensures { (result ≤ length intervals.entry.starts.now) × Started (oriented_in strand intervals.entry) p result }
-{
-    let mut lo: usize = 0;
-    let mut left = intervals.starts.len();
-    while 0 < left {
-        let half = left - left / 2;
-        let mid = lo + half - 1;
-        let s = intervals.starts[mid];
-        let e = intervals.ends[mid];
-        if start_of(strand, s, e) <= p {
-            lo = mid + 1;
-        }
-        left -= half;
-    }
-    lo
+// Intervals in strand order, none of them empty, no two overlapping: what can be searched. The strand stands last: before the lists, what
+// pads it was copied in odd parts, and each call of a list took 7 ns longer.
+#[derive(Clone, Copy)]
+pub struct Ordered<'a> {
+    pub intervals: Intervals<'a>,
+    pub strand: Strand,
+    pub ghost ready: { Ready strand intervals.starts.now intervals.ends.now },
 }
 
-// The exon or intron that holds p, an oriented coordinate at or after the first start, with its edges.
-pub(crate) fn find_exon_or_intron(intervals: Intervals, strand: Strand, p: u64) -> ExonOrIntron
-    requires ready { Ready strand intervals.starts.now intervals.ends.now }
-    requires ends_bound { first_start (oriented_in strand intervals) ≤ p }
-    ensures { let xs = oriented_in strand intervals.entry in
-        (result ≡ exon_or_intron (find_exon_or_intron xs p)) × FoundAt xs p result }
-{
-    let n = started(intervals, strand, p);
-    let i = n - 1;
-    let s = intervals.starts[i];
-    let e = intervals.ends[i];
-    let past = end_of(strand, s, e);
-    if p < past {
-        return ExonOrIntron::Exon(i, start_of(strand, s, e), past);
+// An interval by its index, with its start.
+#[derive(Clone, Copy)]
+pub(crate) struct LastStarted {
+    pub(crate) index: usize,
+    pub(crate) start: u64,
+}
+
+impl<'a> Ordered<'a> {
+    ghost use Rattle.locate.specs.code.Ordered.{in_order};
+
+    // The exons of an admitted transcript.
+    pub fn exons(admitted: Admitted<'a>) -> Ordered<'a>
+        ensures { let t = admitted.entry.transcript.now in
+            (result.strand ≡ t.model.strand) × (result.intervals ≡ t.exons) }
+    {
+        let transcript = admitted.transcript;
+        Ordered {
+            intervals: transcript.exons,
+            strand: transcript.model.strand,
+        }
     }
-    if n < intervals.starts.len() {
-        let t = intervals.starts[n];
-        let f = intervals.ends[n];
-        return ExonOrIntron::Intron(i, past, start_of(strand, t, f));
+
+    // Its CDS segments.
+    pub fn segments(admitted: Admitted<'a>) -> Ordered<'a>
+        ensures { let t = admitted.entry.transcript.now in
+            (result.strand ≡ t.model.strand) × (result.intervals ≡ t.segments.bases) }
+    {
+        let transcript = admitted.transcript;
+        Ordered {
+            intervals: transcript.segments.bases,
+            strand: transcript.model.strand,
+        }
     }
-    ExonOrIntron::Outside
+
+    // How many start at or before p, an oriented coordinate. What is left shrinks alike on both ways. A step is a jump, which a
+    // processor foretells well where bases come in order. No partition_point: on minus a start is read in the list of ends.
+    pub fn started(self, p: u64) -> usize
+        ensures { (result ≤ length self.entry.intervals.starts.now) × Started (in_order self.entry) p result }
+    {
+        let mut lo: usize = 0;
+        let mut left = self.intervals.starts.len();
+        while 0 < left {
+            let half = left - left / 2;
+            let mid = lo + half - 1;
+            let s = self.intervals.starts[mid];
+            let e = self.intervals.ends[mid];
+            if start_of(self.strand, s, e) <= p {
+                lo = mid + 1;
+            }
+            left -= half;
+        }
+        lo
+    }
+
+    // The last that starts at or before p, an oriented coordinate at or after the first start, by the search that suits bases in order,
+    // or in none.
+    // That p is not before the first is a fact of p and these intervals, handed down one private chain of calls.
+    fn last_started<const IN_ORDER: bool>(self, p: u64) -> LastStarted
+        requires some { 0 < length self.intervals.starts.now }
+        requires ends_bound { first_start (in_order self) ≤ p }
+        ensures { LastStart (in_order self.entry) p result.index result.start }
+    {
+        if !IN_ORDER {
+            return self.last_unordered(p);
+        }
+        let index = self.started(p) - 1;
+        let s = self.intervals.starts[index];
+        let e = self.intervals.ends[index];
+        let start = start_of(self.strand, s, e);
+        LastStarted { index, start }
+    }
+
+    // The exon or intron that holds p, with its edges.
+    pub(crate) fn find<const IN_ORDER: bool>(self, p: u64) -> ExonOrIntron
+        requires some { 0 < length self.intervals.starts.now }
+        requires ends_bound { first_start (in_order self) ≤ p }
+        ensures { let xs = in_order self.entry in
+            (result ≡ exon_or_intron (find_exon_or_intron xs p)) × FoundAt xs p result }
+    {
+        let last = self.last_started::<IN_ORDER>(p);
+        let i = last.index;
+        let n = i + 1;
+        let s = self.intervals.starts[i];
+        let e = self.intervals.ends[i];
+        let past = end_of(self.strand, s, e);
+        if p < past {
+            return ExonOrIntron::Exon(i, last.start, past);
+        }
+        if n < self.intervals.starts.len() {
+            let t = self.intervals.starts[n];
+            let f = self.intervals.ends[n];
+            return ExonOrIntron::Intron(i, past, start_of(self.strand, t, f));
+        }
+        ExonOrIntron::Outside
+    }
 }

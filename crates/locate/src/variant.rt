@@ -8,8 +8,9 @@ use super::VariantLocation;
 use super::alone::place_alone;
 use common::refusal::Refusal;
 use footprint::source_ranges;
+use transcript::Transcript;
+use transcript::admission::Admitted;
 use transcript::question::{bad_place, base_of};
-use transcript::{Transcript, admit};
 
 // The place of the base at `start`.
 pub fn locate_variant(
@@ -20,7 +21,7 @@ pub fn locate_variant(
 ) -> Result<VariantLocation, Refusal>
     ensures { result ≡ locate_variant source_ranges (transcript_of transcript.now) chromosome start end }
 {
-    admit(transcript)?;
+    let admitted = Admitted::of(transcript)?;
     if bad_place(start, end) {
         return Err(Refusal::Interval);
     }
@@ -28,5 +29,5 @@ pub fn locate_variant(
         return Err(Refusal::Chromosome);
     }
     let p = base_of(transcript.model.strand, start);
-    Ok(place_alone(source_ranges(), transcript, p))
+    Ok(place_alone(source_ranges(), admitted, p))
 }

@@ -12,9 +12,8 @@ use Rattle.transcript.specs.Orient.{Interval, interval, Oriented}
 use Rattle.transcript.specs.Admission.{bad_exon, ascending}
 use Rattle.locate.specs.Find.{Found, in_exon, in_intron, outside}
 
--- some exons, of good edges and in order
+-- intervals of good edges, in order
 pub record Ready (strand : Strand) (starts ends : List ℕ) : Type 0 where
-  pub some : 0 < length starts
   pub few : length starts ≤ max_exons
   pub even : length starts ≡ length ends
   pub edges : any bad_exon (exons_of starts ends) ≡ false
@@ -40,7 +39,7 @@ exon_or_intron outside = ExonOrIntron.Outside
 -- what an answer about a base has: the exon's own edges, or a gap within the limit, around the base
 abbrev pub FoundAt : List Interval → ℕ → ExonOrIntron → Type 0
 FoundAt xs p (ExonOrIntron.Exon i s e) = (i < length xs) × (s ≡ (get_or xs i (interval 0 0)).start) × (e ≡ (get_or xs i (interval 0 0)).end) × (s ≤ p) × (p < e)
-FoundAt xs p (ExonOrIntron.Intron i s e) = (i < length xs) × (s ≤ p) × (p < e) × (e ≤ top)
+FoundAt xs p (ExonOrIntron.Intron i s e) = (i < max_exons) × (s ≤ p) × (p < e) × (e ≤ top)
 FoundAt xs p ExonOrIntron.Outside = Unit {0}
 
 -- exon i of a transcript is [start, end) and holds the base

@@ -14,22 +14,22 @@ use Rattle.locate.proofs.place.exon_base.Goals as goal
 use Rattle.locate.proofs.place.exon_base.Goals.{After-end_of-b, Start}
 
 -- the exon's index is low, and so is the base
-low : (b : Start) → (b.args.i < length b.args.transcript.now.exons.starts.now) × (length b.args.transcript.now.exons.starts.now ≤ max_exons) × (b.args.end ≤ top)
-low b = (on b.args.transcript.now index_low b.requires.admitted b.args.scalars b.args.cumulative_exons.now b.requires.indexed.0 b.requires.indexed.1 b.args.i b.args.start b.args.end b.args.p b.requires.holds, (on b.args.transcript.now ready b.requires.admitted).few, on b.args.transcript.now end_high b.requires.admitted b.args.scalars b.args.cumulative_exons.now b.requires.indexed.0 b.requires.indexed.1 b.args.i b.args.start b.args.end b.args.p b.requires.holds)
+low : (b : Start) → (b.args.i < length b.args.admitted.transcript.now.exons.starts.now) × (length b.args.admitted.transcript.now.exons.starts.now ≤ max_exons) × (b.args.end ≤ top)
+low b = (on b.args.admitted.transcript.now index_low b.args.admitted.admitted b.args.scalars b.args.cumulative_exons.now b.requires.indexed.0 b.requires.indexed.1 b.args.i b.args.start b.args.end b.args.p b.requires.holds, (on b.args.admitted.transcript.now ready b.args.admitted.admitted).few, on b.args.admitted.transcript.now end_high b.args.admitted.admitted b.args.scalars b.args.cumulative_exons.now b.requires.indexed.0 b.requires.indexed.1 b.args.i b.args.start b.args.end b.args.p b.requires.holds)
 
 -- the counts can be added and subtracted
-able : (b : Start) → Countable (ltb 0 (length b.args.transcript.now.segments.bases.starts.now)) (code_counts b.args.scalars (get_or b.args.cumulative_exons.now b.args.i 0 + (b.args.p - b.args.start)))
-    (interval (orient b.args.transcript.now.model.strand (cds_start b.args.transcript.now.model.cds) (cds_end b.args.transcript.now.model.cds)).start (orient b.args.transcript.now.model.strand (cds_start b.args.transcript.now.model.cds) (cds_end b.args.transcript.now.model.cds)).end) b.args.p b.args.i
-able b = on b.args.transcript.now countable_code b.requires.admitted b.args.scalars b.args.cumulative_exons.now b.requires.indexed.0 b.requires.indexed.1 b.args.i b.args.start b.args.end b.args.p b.requires.holds _ _ _ refl refl refl
+able : (b : Start) → Countable (ltb 0 (length b.args.admitted.transcript.now.segments.bases.starts.now)) (code_counts b.args.scalars (get_or b.args.cumulative_exons.now b.args.i 0 + (b.args.p - b.args.start)))
+    (interval (orient b.args.admitted.transcript.now.model.strand (cds_start b.args.admitted.transcript.now.model.cds) (cds_end b.args.admitted.transcript.now.model.cds)).start (orient b.args.admitted.transcript.now.model.strand (cds_start b.args.admitted.transcript.now.model.cds) (cds_end b.args.admitted.transcript.now.model.cds)).end) b.args.p b.args.i
+able b = on b.args.admitted.transcript.now countable_code b.args.admitted.admitted b.args.scalars b.args.cumulative_exons.now b.requires.indexed.0 b.requires.indexed.1 b.args.i b.args.start b.args.end b.args.p b.requires.holds _ _ _ refl refl refl
 
 pub offset_at-before-requires : goal.offset_at-before-requires
 offset_at-before-requires c =
     let l = low (goal.at.offset_at-before-requires c).Start in let i = l.0 in let f = l.1 in let e = l.2 in
     let t = c.requires.holds.to in
-    (on c.args.transcript.now in_reach c.requires.admitted c.args.scalars c.args.cumulative_exons.now c.requires.indexed.0 c.requires.indexed.1 c.args.i c.args.start c.args.end c.args.p c.requires.holds, on c.args.transcript.now read_low c.requires.admitted c.args.scalars c.args.cumulative_exons.now c.requires.indexed.0 c.requires.indexed.1 c.args.i c.args.start c.args.end c.args.p c.requires.holds, c.requires.holds.from, omega arith)
+    (on c.args.admitted.transcript.now in_reach c.args.admitted.admitted c.args.scalars c.args.cumulative_exons.now c.requires.indexed.0 c.requires.indexed.1 c.args.i c.args.start c.args.end c.args.p c.requires.holds, on c.args.admitted.transcript.now read_low c.args.admitted.admitted c.args.scalars c.args.cumulative_exons.now c.requires.indexed.0 c.requires.indexed.1 c.args.i c.args.start c.args.end c.args.p c.requires.holds, c.requires.holds.from, omega arith)
 
 pub overflow_sub-coding_end : goal.overflow_sub-coding_end
-overflow_sub-coding_end c = on c.args.transcript.now pad_fits c.requires.admitted c.args.scalars c.args.cumulative_exons.now c.requires.indexed.0 c.requires.indexed.1
+overflow_sub-coding_end c = on c.args.admitted.transcript.now pad_fits c.args.admitted.admitted c.args.scalars c.args.cumulative_exons.now c.requires.indexed.0 c.requires.indexed.1
 
 pub overflow_add-coding_end : goal.overflow_add-coding_end
 overflow_add-coding_end c = let l = (able (goal.at.overflow_add-coding_end c).Start).end_low in omega arith
@@ -38,7 +38,7 @@ pub is_exonic_splice_region-mark-requires : goal.is_exonic_splice_region-mark-re
 is_exonic_splice_region-mark-requires c = let l = low (goal.at.is_exonic_splice_region-mark-requires c).Start in (l.0, l.1, c.requires.holds.from, c.requires.holds.to, l.2)
 
 -- the edges of the CDS
-edges : (c : After-end_of-b) → let g = orient c.args.transcript.now.model.strand (cds_start c.args.transcript.now.model.cds) (cds_end c.args.transcript.now.model.cds) in (c.start_of-a.result ≡ g.start) × (c.end_of-b.result ≡ g.end)
+edges : (c : After-end_of-b) → let g = orient c.args.admitted.transcript.now.model.strand (cds_start c.args.admitted.transcript.now.model.cds) (cds_end c.args.admitted.transcript.now.model.cds) in (c.start_of-a.result ≡ g.start) × (c.end_of-b.result ≡ g.end)
 edges c =
     let s = c.start_or_zero-s.ensures in
     let e = c.end_or_zero-e.ensures in
@@ -49,10 +49,10 @@ overflow_cast-i c = let l = low (goal.at.overflow_cast-i c).Start in let i = l.0
 
 pub exonic_place-requires : goal.exonic_place-requires
 exonic_place-requires c =
-    on c.args.transcript.now countable_code c.requires.admitted c.args.scalars c.args.cumulative_exons.now c.requires.indexed.0 c.requires.indexed.1 c.args.i c.args.start c.args.end c.args.p c.requires.holds c.start_of-a.result c.end_of-b.result c.offset_at-before.result (edges (goal.at.exonic_place-requires c).After-end_of-b).0 (edges (goal.at.exonic_place-requires c).After-end_of-b).1 c.offset_at-before.ensures
+    on c.args.admitted.transcript.now countable_code c.args.admitted.admitted c.args.scalars c.args.cumulative_exons.now c.requires.indexed.0 c.requires.indexed.1 c.args.i c.args.start c.args.end c.args.p c.requires.holds c.start_of-a.result c.end_of-b.result c.offset_at-before.result (edges (goal.at.exonic_place-requires c).After-end_of-b).0 (edges (goal.at.exonic_place-requires c).After-end_of-b).1 c.offset_at-before.ensures
 
 pub returns : goal.returns
 returns c =
     let g = edges (goal.at.returns c).After-end_of-b in
     c.exonic_place.ensures
-    ∙ on c.args.transcript.now exonic_code c.requires.admitted c.args.scalars c.args.cumulative_exons.now c.requires.indexed.0 c.requires.indexed.1 c.args.i c.args.start c.args.end c.args.p c.requires.holds c.start_of-a.result c.end_of-b.result c.offset_at-before.result g.0 g.1 c.offset_at-before.ensures c.is_exonic_splice_region-mark.result c.is_exonic_splice_region-mark.ensures
+    ∙ on c.args.admitted.transcript.now exonic_code c.args.admitted.admitted c.args.scalars c.args.cumulative_exons.now c.requires.indexed.0 c.requires.indexed.1 c.args.i c.args.start c.args.end c.args.p c.requires.holds c.start_of-a.result c.end_of-b.result c.offset_at-before.result g.0 g.1 c.offset_at-before.ensures c.is_exonic_splice_region-mark.result c.is_exonic_splice_region-mark.ensures

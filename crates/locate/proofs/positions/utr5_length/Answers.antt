@@ -27,44 +27,44 @@ held x σ coding first from h e =
 pub returns-then-not-coding : goal.returns-then-not-coding
 returns-then-not-coding c = rw (not-true c.args.coding (ap not c.if-not-coding.true))
 
-pub offset_bounds-intervals-first : goal.offset_bounds-intervals-first
-offset_bounds-intervals-first c = let l = (held c.args.intervals c.args.strand c.args.coding c.args.first c.args.from c.requires.first_held (not-false c.args.coding (ap not c.if-not-coding.false))).0 in let f = c.requires.ready.few in omega arith
+pub offset_bounds-exons-first : goal.offset_bounds-exons-first
+offset_bounds-exons-first c = let l = (held c.args.exons.intervals c.args.exons.strand c.args.coding c.args.first c.args.from c.requires.first_held (not-false c.args.coding (ap not c.if-not-coding.false))).0 in let f = c.args.exons.ready.few in omega arith
 
-pub bounds-intervals-first : goal.bounds-intervals-first
-bounds-intervals-first c = (held c.args.intervals c.args.strand c.args.coding c.args.first c.args.from c.requires.first_held (not-false c.args.coding (ap not c.if-not-coding.false))).0
+pub bounds-exons-first : goal.bounds-exons-first
+bounds-exons-first c = (held c.args.exons.intervals c.args.exons.strand c.args.coding c.args.first c.args.from c.requires.first_held (not-false c.args.coding (ap not c.if-not-coding.false))).0
 
-pub offset_bounds-intervals-first-2 : goal.offset_bounds-intervals-first-2
-offset_bounds-intervals-first-2 c = let l = (held c.args.intervals c.args.strand c.args.coding c.args.first c.args.from c.requires.first_held (not-false c.args.coding (ap not c.if-not-coding.false))).0 in let f = c.requires.ready.few in omega arith
+pub offset_bounds-exons-first-2 : goal.offset_bounds-exons-first-2
+offset_bounds-exons-first-2 c = let l = (held c.args.exons.intervals c.args.exons.strand c.args.coding c.args.first c.args.from c.requires.first_held (not-false c.args.coding (ap not c.if-not-coding.false))).0 in let f = c.args.exons.ready.few in omega arith
 
-pub bounds-intervals-first-2 : goal.bounds-intervals-first-2
-bounds-intervals-first-2 c = let l = (held c.args.intervals c.args.strand c.args.coding c.args.first c.args.from c.requires.first_held (not-false c.args.coding (ap not c.if-not-coding.false))).0 in let e = c.requires.ready.even in omega arith
+pub bounds-exons-first-2 : goal.bounds-exons-first-2
+bounds-exons-first-2 c = let l = (held c.args.exons.intervals c.args.exons.strand c.args.coding c.args.first c.args.from c.requires.first_held (not-false c.args.coding (ap not c.if-not-coding.false))).0 in let e = c.args.exons.ready.even in omega arith
 
 -- what `start_of` gives is the start of the exon
-starts : (c : After-start_of) → c.start_of.result ≡ (get_or (lent_exons c.args.strand c.args.intervals.starts.now c.args.intervals.ends.now) c.args.first nowhere).start
+starts : (c : After-start_of) → c.start_of.result ≡ (get_or (lent_exons c.args.exons.strand c.args.exons.intervals.starts.now c.args.exons.intervals.ends.now) c.args.first nowhere).start
 starts c =
-    c.start_of.ensures ∙ sym (start_at_lem c.args.strand c.args.intervals.starts.now c.args.intervals.ends.now c.requires.ready c.args.first (held c.args.intervals c.args.strand c.args.coding c.args.first c.args.from c.requires.first_held (not-false c.args.coding (ap not c.if-not-coding.false))).0)
+    c.start_of.ensures ∙ sym (start_at_lem c.args.exons.strand c.args.exons.intervals.starts.now c.args.exons.intervals.ends.now c.args.exons.ready c.args.first (held c.args.exons.intervals c.args.exons.strand c.args.coding c.args.first c.args.from c.requires.first_held (not-false c.args.coding (ap not c.if-not-coding.false))).0)
 
 pub offset_at-requires : goal.offset_at-requires
 offset_at-requires c =
-    let h = held c.args.intervals c.args.strand c.args.coding c.args.first c.args.from c.requires.first_held (not-false c.args.coding (ap not c.if-not-coding.false)) in
+    let h = held c.args.exons.intervals c.args.exons.strand c.args.coding c.args.first c.args.from c.requires.first_held (not-false c.args.coding (ap not c.if-not-coding.false)) in
     let f = c.requires.sums.reach in
     let l = h.0 in let s = h.1 in let t = h.2 in
     let q = starts (goal.at.offset_at-requires c).After-start_of in
-    let n = count c.args.strand c.args.intervals.starts.now c.args.intervals.ends.now c.requires.ready in
-    let e = end_at_lem c.args.strand c.args.intervals.starts.now c.args.intervals.ends.now c.requires.ready c.args.first l in
-    let u = end_top c.args.strand c.args.intervals.starts.now c.args.intervals.ends.now c.requires.ready c.args.first l in (
+    let n = count c.args.exons.strand c.args.exons.intervals.starts.now c.args.exons.intervals.ends.now c.args.exons.ready in
+    let e = end_at_lem c.args.exons.strand c.args.exons.intervals.starts.now c.args.exons.intervals.ends.now c.args.exons.ready c.args.first l in
+    let u = end_top c.args.exons.strand c.args.exons.intervals.starts.now c.args.exons.intervals.ends.now c.args.exons.ready c.args.first l in (
       omega arith,
-      sum_low (lent_exons c.args.strand c.args.intervals.starts.now c.args.intervals.ends.now) c.args.sums.now (ascends c.args.strand c.args.intervals.starts.now c.args.intervals.ends.now c.requires.ready) c.requires.sums
-          (high c.args.strand c.args.intervals.starts.now c.args.intervals.ends.now c.requires.ready) c.args.first (omega arith),
+      sum_low (lent_exons c.args.exons.strand c.args.exons.intervals.starts.now c.args.exons.intervals.ends.now) c.args.sums.now (ascends c.args.exons.strand c.args.exons.intervals.starts.now c.args.exons.intervals.ends.now c.args.exons.ready) c.requires.sums
+          (high c.args.exons.strand c.args.exons.intervals.starts.now c.args.exons.intervals.ends.now c.args.exons.ready) c.args.first (omega arith),
       omega arith,
       omega arith,
     )
 
 pub returns : goal.returns
 returns c =
-    let h = held c.args.intervals c.args.strand c.args.coding c.args.first c.args.from c.requires.first_held (not-false c.args.coding (ap not c.if-not-coding.false)) in
+    let h = held c.args.exons.intervals c.args.exons.strand c.args.coding c.args.first c.args.from c.requires.first_held (not-false c.args.coding (ap not c.if-not-coding.false)) in
     let l = h.0 in
-    let n = count c.args.strand c.args.intervals.starts.now c.args.intervals.ends.now c.requires.ready in
+    let n = count c.args.exons.strand c.args.exons.intervals.starts.now c.args.exons.intervals.ends.now c.args.exons.ready in
     rw (not-false c.args.coding (ap not c.if-not-coding.false))
     (c.offset_at.ensures ∙ rw (starts (goal.at.returns c).After-start_of)
-    (read_sum (lent_exons c.args.strand c.args.intervals.starts.now c.args.intervals.ends.now) c.args.sums.now (ascends c.args.strand c.args.intervals.starts.now c.args.intervals.ends.now c.requires.ready) c.requires.sums c.args.first c.args.from (omega arith) h.1 h.2))
+    (read_sum (lent_exons c.args.exons.strand c.args.exons.intervals.starts.now c.args.exons.intervals.ends.now) c.args.sums.now (ascends c.args.exons.strand c.args.exons.intervals.starts.now c.args.exons.intervals.ends.now c.args.exons.ready) c.requires.sums c.args.first c.args.from (omega arith) h.1 h.2))

@@ -17,4 +17,4 @@ abbrev pub numbers_of : Strand → List ℕ → List ℕ → List ℕ → List �
 numbers_of strand starts ends sums bases = map (number strand starts ends sums) (map (orient_base strand) bases)
 
 abbrev pub invariant-loop-i : goal.invariant-loop-i
-invariant-loop-i l = l.numbers ≡ front (numbers_of l.strand l.intervals.starts.now l.intervals.ends.now l.sums l.bases) 64 l.i
+invariant-loop-i l = l.numbers ≡ front (numbers_of l.segments.strand l.segments.intervals.starts.now l.segments.intervals.ends.now l.sums l.bases) 64 l.i
