@@ -1,12 +1,12 @@
 // A codon with one base replaced, and the letters of all such codons.
-ghost use Rattle.std.specs.Prelude.{◌≡◌, List, ℕ, ◌+◌, ◌*◌, ◌≤◌, ◌<◌, length};
+ghost use Rattle.std.specs.Prelude.{◌≡◌, List, ℕ, ◌+◌, ◌*◌, ◌<◌};
 ghost use Rattle.codon.specs.declared.Codon.{Codon};
 ghost use Rattle.codon.specs.Table.{code_table, codon_to_index, translate_codon, build_alt_codon};
 ghost use Rattle.codon.specs.Altered.{altered_letter};
-ghost use Rattle.codon.specs.code.Letters.{code_number, AlteredLetters, BothLetters};
+ghost use Rattle.codon.specs.code.Letters.{code_number, LentLetters, BothLetters};
 
 use crate::bases::base_number;
-use crate::{Codon, GeneticCode};
+use crate::{CodeLetters, Codon, GeneticCode};
 
 // The letter of each codon with each place replaced by each base, in each genetic code: entry 768 * code + 256 * place + 4 * codon + base.
 // In this order the compiler lays the table out by whole words.
@@ -41,12 +41,18 @@ pub fn build_alt_codon(c: Codon, place: u8, b: u8) -> Codon
     }
 }
 
-// The letters of both genetic codes. A constant is laid out wherever it is read: who asks for many letters asks once for these, and
-// lends the part of a code.
-pub fn altered_letters() -> [u8; 1536]
-    ensures { BothLetters result }
-{
-    ALTERED_LETTERS
+// The letters of both genetic codes.
+#[derive(Drop)]
+pub struct AllLetters {
+    pub bytes: [u8; 1536],
+    pub ghost both: { BothLetters bytes },
+}
+
+// A constant is laid out wherever it is read: who asks for many letters asks once for these, and lends the part of a code.
+pub fn altered_letters() -> AllLetters {
+    AllLetters {
+        bytes: ALTERED_LETTERS,
+    }
 }
 
 // Where the letters of a code begin.
@@ -57,33 +63,32 @@ fn letters_from(code: GeneticCode) -> usize
 }
 
 // The letters of one code.
-pub fn letters_of(both: &[u8; 1536], code: GeneticCode) -> &[u8]
-    requires { BothLetters both.now }
-    ensures { AlteredLetters (code_table code) result.now }
+pub fn letters_of(both: &AllLetters, code: GeneticCode) -> CodeLetters
+    ensures { LentLetters (code_table code) result }
 {
-    let all = &both[..];
+    let all = &both.bytes[..];
     let from = letters_from(code);
-    &all[from..]
+    CodeLetters {
+        bytes: &all[from..],
+    }
 }
 
 // The entry of a codon's place, a place in the codon and a base number.
-pub(crate) fn altered_letter(letters: &[u8], codon: u8, place: u8, base: u8) -> u8
-    requires in_bounds { 768 ≤ length letters.now }
-    requires codon_bound { (codon < 64) × (place < 3) × (base < 4) }
+pub(crate) fn altered_letter(letters: CodeLetters, codon: u8, place: u8, base: u8) -> u8
+    requires { (codon < 64) × (place < 3) × (base < 4) }
     ensures { (table : List ℕ)
-        → AlteredLetters table letters.now
+        → LentLetters table letters.entry
         → result ≡ altered_letter table (codon * 12 + place * 4 + base) }
 {
-    letters[place as usize * 256 + codon as usize * 4 + base as usize]
+    letters.bytes[place as usize * 256 + codon as usize * 4 + base as usize]
 }
 
 // The letter of the codon of that number with the base at a place replaced.
 #[tactic(auto, using(crate::proofs::Index::number_below), unfolding(crate::specs::Table::translate_codon))]
-pub(crate) fn altered_letter_at(letters: &[u8], codon: u8, place: u8, b: u8) -> u8
-    requires in_bounds { 768 ≤ length letters.now }
-    requires codon_bound { (codon < 64) × (place < 3) }
+pub(crate) fn altered_letter_at(letters: CodeLetters, codon: u8, place: u8, b: u8) -> u8
+    requires { (codon < 64) × (place < 3) }
     ensures { (table : List ℕ) (c : Codon)
-        → AlteredLetters table letters.now
+        → LentLetters table letters.entry
         → codon_to_index c ≡ Some codon
         → result ≡ translate_codon table (build_alt_codon c place b) }
 {

@@ -7,7 +7,9 @@ mod display;
 mod table;
 mod translate;
 
-pub use altered::{altered_letters, build_alt_codon, letters_of};
+ghost use Rattle.std.specs.Prelude.{◌≤◌, length};
+
+pub use altered::{AllLetters, altered_letters, build_alt_codon, letters_of};
 pub use bases::{base_number, complement, is_base};
 pub use display::format_amino_acids;
 pub use table::{translate_codon, translate_reference_codon};
@@ -27,6 +29,13 @@ pub struct Codon {
     pub first: u8,
     pub second: u8,
     pub third: u8,
+}
+
+// The letters of each codon with each place replaced by each base, lent.
+#[derive(Clone, Copy)]
+pub struct CodeLetters<'a> {
+    pub bytes: &'a [u8],
+    pub ghost whole: { 768 ≤ length bytes.now },
 }
 
 // The letters of a reference codon and of that codon with one base replaced.

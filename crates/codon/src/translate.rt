@@ -1,21 +1,21 @@
 // The two letters of a call.
-ghost use Rattle.std.specs.Prelude.{◌≡◌, List, ℕ, ◌≤◌, length};
+ghost use Rattle.std.specs.Prelude.{◌≡◌, List, ℕ};
 ghost use Rattle.codon.specs.Table.{code_table, codon_to_index, letter_at, translate_codon, translate_reference_codon, build_alt_codon};
-ghost use Rattle.codon.specs.code.Letters.{AlteredLetters};
+ghost use Rattle.codon.specs.code.Letters.{LentLetters};
 
 use crate::altered::{
     altered_letter, altered_letter_at, altered_letters, build_alt_codon, letters_of,
 };
 use crate::table::{codon_to_index, reference_letter};
-use crate::{Codon, GeneticCode, Letters};
+use crate::{CodeLetters, Codon, GeneticCode, Letters};
 
 // The letter of a codon by its number: that of the codon with its own third base put in.
+// An index or X: map_or with the call inside is no shorter.
 #[tactic(auto, using(crate::proofs::Index::codon_below), unfolding(crate::specs::Table::translate_codon))]
-fn own_letter(letters: &[u8], c: Codon, index: Option<u8>) -> u8
-    requires in_bounds { 768 ≤ length letters.now }
-    requires index_value { index ≡ codon_to_index c }
+fn own_letter(letters: CodeLetters, c: Codon, index: Option<u8>) -> u8
+    requires { index ≡ codon_to_index c }
     ensures { (table : List ℕ)
-        → AlteredLetters table letters.now
+        → LentLetters table letters.entry
         → result ≡ translate_codon table c }
 {
     match index {
@@ -27,11 +27,10 @@ fn own_letter(letters: &[u8], c: Codon, index: Option<u8>) -> u8
 // The letter of the codon of that number with the base at a place replaced. Where a byte of it is no base, the one at the place may be:
 // A stands for it.
 #[tactic(auto, using(crate::proofs::Index::codon_below), unfolding(crate::specs::Table::translate_codon))]
-fn letter_put_in(letters: &[u8], c: Codon, index: Option<u8>, place: u8, b: u8) -> u8
-    requires in_bounds { 768 ≤ length letters.now }
-    requires index_value { index ≡ codon_to_index c }
+fn letter_put_in(letters: CodeLetters, c: Codon, index: Option<u8>, place: u8, b: u8) -> u8
+    requires { index ≡ codon_to_index c }
     ensures { (table : List ℕ)
-        → AlteredLetters table letters.now
+        → LentLetters table letters.entry
         → result ≡ translate_codon table (build_alt_codon c place b) }
 {
     if place > 2 {
@@ -49,10 +48,15 @@ fn letter_put_in(letters: &[u8], c: Codon, index: Option<u8>, place: u8, b: u8) 
 // The letters of a reference codon and of that codon with the base at a place replaced, by the letters of a genetic code that are lent.
 // Where all three bytes are bases, both are read by one number of the codon.
 #[tactic(auto, unfolding(crate::specs::Table::translate_reference_codon))]
-pub fn translate_codons(letters: &[u8], selenocysteine: bool, c: Codon, place: u8, b: u8) -> Letters
-    requires { 768 ≤ length letters.now }
+pub fn translate_codons(
+    letters: CodeLetters,
+    selenocysteine: bool,
+    c: Codon,
+    place: u8,
+    b: u8,
+) -> Letters
     ensures { (table : List ℕ)
-        → AlteredLetters table letters.now
+        → LentLetters table letters.entry
         → (result.reference ≡ translate_reference_codon table selenocysteine c)
         × (result.altered ≡ translate_codon table (build_alt_codon c place b)) }
 {

@@ -1,7 +1,7 @@
 -- The whole answer to a call, from its parts.
 -- Assumes nothing.
 use Prim.Native.Nat.{ℕ}
-use mathlib.Core.Path.{◌≡◌, refl, sym, ◌∙◌, ap}
+use mathlib.Core.Path.{◌≡◌, sym, ◌∙◌, ap}
 use lib.Dec.{eqb}
 use Rattle.transcript.specs.Transcript.{Transcript}
 use Rattle.transcript.specs.Orient.{orient_base, oriented}
@@ -19,8 +19,7 @@ use Rattle.locate.specs.PlaceKind.{is_distal}
 use Rattle.consequence.specs.declared.Call.{Call}
 use Rattle.consequence.specs.Called.{Called}
 use Rattle.consequence.specs.declared.ConsequenceResult.{ConsequenceResult}
-use Rattle.consequence.specs.Window.{Window, window_from, base_at, coding_byte}
-use Rattle.consequence.specs.Reading.{cds_base, fetch_bases}
+use Rattle.consequence.specs.Window.{Window, coding_byte}
 use Rattle.consequence.specs.Answer.{place_result}
 use Rattle.consequence.specs.Call.{call_table, add_splice_spill, call_place, call_codon, lacks_codon, opening_refusal, closing_refusal, call_refusal, call_result, annotate_snv}
 use Rattle.consequence.specs.code.AtPlace.{place_called, spill_at, spilled}
@@ -38,11 +37,6 @@ module _ (r : Ranges) (t : Transcript) (w : Window) (q : Call) where
   unfolding opening_refusal
   not_admitted f h = refused f (sym (passed_first {A = Unit {0}} {B = Unit {0}} tt tt (admission t) f h _))
 
-  -- the chromosome of the window takes no part in reading
-  codon_read : call_codon t (window_from w.first w.bytes) ≡ call_codon t w
-  unfolding fetch_bases cds_base base_at
-  codon_read = refl
-
   abbrev base : ℕ
   base = orient_base t.model.strand q.position
 
@@ -51,11 +45,11 @@ module _ (r : Ranges) (t : Transcript) (w : Window) (q : Call) where
 
   -- the answer at the place with its spill
   pub answered : opening_refusal t w q ≡ 0 → (p : ℕ) → p ≡ base → (place : VariantLocation) → place ≡ locate r (oriented t) p
-      → (x : Called) → x ≡ place_called (call_table t) (oriented t) p (coding_byte t.model.strand q.alt_base) (call_codon t (window_from w.first w.bytes)) place
+      → (x : Called) → x ≡ place_called (call_table t) (oriented t) p (coding_byte t.model.strand q.alt_base) (call_codon t w) place
       → (s : SpliceSpill) → s ≡ spill_at (oriented t) p → spilled s x ≡ annotate_snv r t w q
   unfolding annotate_snv call_refusal call_result place_called
   answered h p ep place el x ex s es =
       (λ k. spilled (es k) (ex k))
-      ∙ (λ k. spilled (spill_at (oriented t) p) (place_called (call_table t) (oriented t) p (coding_byte t.model.strand q.alt_base) (codon_read k) (el k)))
+      ∙ ap (λ (l : VariantLocation). spilled (spill_at (oriented t) p) (place_called (call_table t) (oriented t) p (coding_byte t.model.strand q.alt_base) (call_codon t w) l)) el
       ∙ ap (λ (n : ℕ). spilled (spill_at (oriented t) n) (place_called (call_table t) (oriented t) n (coding_byte t.model.strand q.alt_base) (call_codon t w) (locate r (oriented t) n))) ep
       ∙ rw h (spilled_outcome (spill_at (oriented t) base) closing (place_result (call_table t) (oriented t) base (coding_byte t.model.strand q.alt_base) (call_codon t w) (call_place r t q)))

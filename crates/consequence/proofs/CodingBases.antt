@@ -19,12 +19,13 @@ use Rattle.transcript.specs.Bases.{size}
 use Rattle.transcript.proofs.Listed.{nowhere, edges_at}
 use Rattle.locate.specs.Index.{cumulative}
 use Rattle.transcript.specs.code.Lent.{lent_exons}
+use Rattle.locate.specs.code.Search.{Ready}
 use Rattle.locate.specs.code.Sums.{first_sum, Sums}
 use Rattle.locate.proofs.PrefixSums.{cumulative_first, cumulative_next, sizes_at}
 use Rattle.locate.proofs.LentIndex.{sizes_turned}
 use Rattle.locate.proofs.Searching.{count, start_at_lem}
 use Rattle.locate.specs.Place.{coding_position}
-use Rattle.consequence.specs.code.Segments.{Segments, Held}
+use Rattle.consequence.specs.code.Segments.{Segments, Rising, Held}
 
 -- base d of [s, e) on the minus strand
 pub nth_minus : (s e d : ℕ) → d < e - s → e ≤ coordinate_limit → orient_base Minus ((orient Minus s e).start + d) ≡ e - 1 - d
@@ -69,21 +70,24 @@ module _ (xs : List Interval) (sums : List ℕ) (s : Sums xs sums) where
       let f = s.are (suc i) (omega arith) in
       rw add-one (f ∙ cumulative_next (first_sum sums) (map size xs) i (omega arith) ∙ ap (λ (n : ℕ). n + get_or (map size xs) i 0) (sym e))
 
-module _ (σ : Strand) (gs ge sums : List ℕ) (pad : ℕ) (s : Segments σ gs ge sums pad) where
+module _ (σ : Strand) (gs ge sums : List ℕ) (pad : ℕ) (r : Ready σ gs ge) (s : Segments (lent_exons σ gs ge) sums pad) where
   next_sum : (i : ℕ) → i < length gs → get_or sums (i + 1) 0 ≡ get_or sums i 0 + (get_or ge i 0 - get_or gs i 0)
   next_sum i l =
-      let n = count σ gs ge s.ready in
+      let n = count σ gs ge r in
       sum_next (lent_exons σ gs ge) sums s.summed i (omega arith)
-      ∙ ap (λ (m : ℕ). get_or sums i 0 + m) (ap (λ (l : List ℕ). get_or l i 0) (sizes_turned σ (exons_of gs ge) s.ready.edges) ∙ sizes_at gs ge i s.ready.even l)
+      ∙ ap (λ (m : ℕ). get_or sums i 0 + m) (ap (λ (l : List ℕ). get_or l i 0) (sizes_turned σ (exons_of gs ge) r.edges) ∙ sizes_at gs ge i r.even l)
+
+  pub rises : Rising sums (length gs)
+  rises i l = let n = next_sum i l in omega arith
 
   -- there is a sum behind each segment
   pub reach : length gs < length sums
-  reach = let n = count σ gs ge s.ready in let r = s.summed.reach in omega arith
+  reach = let n = count σ gs ge r in let l = s.summed.reach in omega arith
 
   -- a padded offset k that segment i holds
   module _ (k i : ℕ) (h : Held sums (length gs) k i) where
     edges : (get_or gs i 0 < get_or ge i 0) × (get_or ge i 0 ≤ coordinate_limit)
-    edges = edges_at gs ge i s.ready.edges s.ready.even h.index
+    edges = edges_at gs ge i r.edges r.even h.index
 
     pub sum_le : pad ≤ k → get_or sums i 0 ≤ k
     sum_le l = let f = h.from in let q = s.pad_is in omega arith
@@ -97,11 +101,11 @@ module _ (σ : Strand) (gs ge sums : List ℕ) (pad : ℕ) (s : Segments σ gs g
 
     pub base_is : pad ≤ k → coding_position (lent_exons σ gs ge) (k - pad) ≡ (orient σ (get_or gs i 0) (get_or ge i 0)).start + (k - get_or sums i 0)
     base_is l =
-        let n = count σ gs ge s.ready in
+        let n = count σ gs ge r in
         let x = h.index in
         ap (λ (f : ℕ). coding_position (lent_exons σ gs ge) (k - f)) s.pad_is
         ∙ coding_at (lent_exons σ gs ge) sums s.summed i k (omega arith) (sum_le l) h.to
-        ∙ ap (λ (f : ℕ). f + (k - get_or sums i 0)) (start_at_lem σ gs ge s.ready i x)
+        ∙ ap (λ (f : ℕ). f + (k - get_or sums i 0)) (start_at_lem σ gs ge r i x)
 
     -- the next offset lies in the same segment or in the next
     pub held_next : (m j : ℕ) → m ≡ k + 1 → m < get_or sums (length gs) 0 → j ≡ cond (ltb m (get_or sums (i + 1) 0)) i (i + 1) → Held sums (length gs) m j
@@ -115,7 +119,7 @@ module _ (σ : Strand) (gs ge sums : List ℕ) (pad : ℕ) (s : Segments σ gs g
         let z : j ≡ i + 1 = q ∙ rw y in
         let v = later i (length gs) (λ w. (let a = ap (λ (n : ℕ). get_or sums n 0) w in omega arith)) x in
         let n = next_sum (i + 1) v in
-        let g = (edges_at gs ge (i + 1) s.ready.edges s.ready.even v).0 in
+        let g = (edges_at gs ge (i + 1) r.edges r.even v).0 in
         rw z record { index = v; from = omega arith; to = omega arith }))
       where
         later : (i n : ℕ) → (i + 1 ≡ n → ⊥) → i < n → i + 1 < n

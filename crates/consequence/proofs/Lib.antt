@@ -1,5 +1,6 @@
 pub mod CodingBases
 pub mod CodonBases
+pub mod SegmentSearch
 pub mod Selenocysteines
 pub mod Refusals
 pub mod Regions

@@ -1,8 +1,9 @@
 -- Demand 1 of a call, and the numbers of what it reads.
 -- Assumes nothing.
-use Rattle.std.proofs.Common.{Option, Some, None}
+use Rattle.std.proofs.Common.{Option}
 use Prim.Native.Nat.{ℕ, ◌+◌}
 use mathlib.Core.Path.{◌≡◌, refl}
+use native.Mathlib.Omega.{arith}
 use mathlib.Core.Bool.{Bool, true, false, not, ◌&&◌, ◌||◌}
 use lib.Dec.{eqb, ltb}
 use Rattle.common.specs.Refuse.{refuse, or_else}
@@ -53,19 +54,13 @@ unfolding base_at
 position_numbered w q = on_test (in_window w q.position) (λ e. rw e) (λ e. rw e)
 
 behind_19 : (distal coding : Bool) (c : Option Codon) → closing_refusal distal (coding && is_outside c) ≡ refuse distal 19 (refuse coding (fetched_codon_number c) 0)
-behind_19 true coding c = refl
-behind_19 false false c = refl
-behind_19 false true (Some c) = refl
-behind_19 false true None = refl
+behind_19 distal coding c = grind arith
 
 pub codon_numbered : CodonNumbered
 codon_numbered distal codon place = behind_19 distal (is_cds_exon place) (codon (place_offset place))
 
 first_base : (n : ℕ) (a b c : Option ℕ) → fetched_codon_number (codon_of n a b c) ≡ or_else (codon_base_number a) (or_else (codon_base_number b) (codon_base_number c))
-first_base n (Some a) (Some b) (Some c) = refl
-first_base n (Some a) (Some b) None = refl
-first_base n (Some a) None c = refl
-first_base n None b c = refl
+first_base n a b c = grind arith
 
 pub bases_numbered : BasesNumbered
 unfolding fetch_bases

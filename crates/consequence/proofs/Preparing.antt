@@ -25,13 +25,12 @@ use Rattle.locate.specs.Index.{selenocysteine_codons}
 use Rattle.locate.specs.Place.{cds_offset, cdna_position, locate}
 use Rattle.locate.specs.PlaceKind.{is_cds_exon, place_offset}
 use Rattle.transcript.specs.code.Lent.{lent_exons}
-use Rattle.locate.specs.code.Search.{Ready}
 use Rattle.locate.specs.code.Sums.{first_sum, Sums}
 use Rattle.locate.proofs.Coding.{coding_place, coding_offset}
 use Rattle.locate.proofs.Offset.{CdnaOf, index_cdna}
-use Rattle.locate.proofs.CodedBases.{ready_coded}
-use Rattle.locate.proofs.LentTranscript.{known, ad, exons_are, segments_are, bases_are, count, segment_count, ready, coding_is, pad_2}
-use Rattle.locate.proofs.LentIndex.{exonic, coding, total, coded}
+use Rattle.locate.proofs.CodedBases.{some_interval}
+use Rattle.locate.proofs.LentTranscript.{known, ad, exons_are, segments_are, bases_are, count, segment_count, coding_is, pad_2}
+use Rattle.locate.proofs.LentIndex.{exonic, coding, total}
 use Rattle.consequence.specs.declared.region.Region.{Region}
 use Rattle.consequence.specs.Region.{region_of}
 use Rattle.consequence.specs.code.AtPlace.{region_called, place_called}
@@ -88,21 +87,15 @@ module _ (m : TranscriptModel) (ss es ps is gs ge bs : List ℕ) (x : IndexScala
   pub exons_at : o.exons ≡ lent_exons m.strand ss es
   exons_at = on exons_are
 
-  pub exons_ready : Ready m.strand ss es
-  exons_ready = on ready
-
   -- a base of exon i
   module _ (p i : ℕ) (k : Here o.exons p i) where
-    pub exon_requires : Ready m.strand ss es × ((Sums (lent_exons m.strand ss es) xs × (first_sum xs ≡ 0)) × ((i < length ss) × ((get_or (lent_exons m.strand ss es) i nowhere).start ≤ p) × (p < (get_or (lent_exons m.strand ss es) i nowhere).end)))
+    pub exon_requires : (Sums (lent_exons m.strand ss es) xs × (first_sum xs ≡ 0)) × ((i < length ss) × ((get_or (lent_exons m.strand ss es) i nowhere).start ≤ p) × (p < (get_or (lent_exons m.strand ss es) i nowhere).end))
     exon_requires =
         let e = on exons_are in
         let n = on count in
         let l = k.0 in (
-          on ready,
-          (
-            (on exonic xs h.exons_are, h.exons_are.1),
-            (omega arith, rw e at k.1, rw e at k.2),
-          ),
+          (on exonic xs h.exons_are, h.exons_are.1),
+          (omega arith, rw e at k.1, rw e at k.2),
         )
 
   pub exon_cdna : (p n : ℕ) → n ≡ bases_in (lent_exons m.strand ss es) 0 p + 1 → cdna_position o p ≡ n
@@ -136,9 +129,9 @@ module _ (m : TranscriptModel) (ss es ps is gs ge bs : List ℕ) (x : IndexScala
     pub coding_cdna : cdna_position o p ≡ x.utr5_exonic_len + (f.0 - x.cds_start_pad) + 1
     coding_cdna = sym (rw (h.scalars_are, offset_is) position.is)
 
-    segments_ready : Segments m.strand gs ge ys x.cds_start_pad
-    segments_ready = record {
-      ready = ready_coded m.strand gs ge ys bs (on coded ys h.segments_are) p (rw (on segments_are) at in_segment);
+    segments_summed : Segments (lent_exons m.strand gs ge) ys x.cds_start_pad
+    segments_summed = record {
+      some = some_interval (lent_exons m.strand gs ge) p (rw (on segments_are) at in_segment);
       summed = on coding ys h.segments_are;
       pad_is = ap (λ (y : IndexScalars). y.cds_start_pad) h.scalars_are ∙ sym h.segments_are.1;
     }
@@ -146,7 +139,7 @@ module _ (m : TranscriptModel) (ss es ps is gs ge bs : List ℕ) (x : IndexScala
     offset_low : f.0 < x.total_cds_length
     offset_low = let b = before_lt o.segments p in_segment in let q = offset_is in rw h.scalars_are (omega arith)
 
-    pub coding_requires : Segments m.strand gs ge ys x.cds_start_pad
+    pub coding_requires : Segments (lent_exons m.strand gs ge) ys x.cds_start_pad
         × (((x.segment_count ≡ length gs) × (x.total_cds_length ≡ get_or ys (length gs) 0) × (f.0 < x.total_cds_length))
         × (((x.selenocysteine_count ≤ 64) × (x.selenocysteine_count ≤ length cs))
         × ((i < 65535) × (f.0 ≤ 2 + top) × (x.cds_start_pad ≤ f.0) × (x.utr5_exonic_len + (f.0 - x.cds_start_pad) ≤ top))))
@@ -161,7 +154,7 @@ module _ (m : TranscriptModel) (ss es ps is gs ge bs : List ℕ) (x : IndexScala
         let z : CdnaOf o p = position in
         let v : (x.cds_start_pad ≤ f.0) × (x.utr5_exonic_len + (f.0 - x.cds_start_pad) ≤ top) = rw (s, offset_is) (z.padded, z.fits) in
         let y : x.cds_start_pad ≤ 2 = rw s (on pad_2) in (
-          segments_ready,
+          segments_summed,
           (
             (
               ap (λ (y : IndexScalars). y.segment_count) s ∙ on segment_count,

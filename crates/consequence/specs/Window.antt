@@ -1,26 +1,19 @@
 -- The window: lent bytes, taken as they stand, from a first coordinate on one chromosome.
 use Rattle.std.specs.Prelude.{ℕ, ◌+◌, ◌-◌, Bool, cond, ◌&&◌, List, length, get_or, leb, ltb, Option, Some, None}
-use Rattle.common.specs.Slices.{Slice, Passed}
 use Rattle.codon.specs.Bases.{complement_of}
 use Rattle.transcript.specs.declared.Strand.{Strand}
 use Rattle.transcript.specs.declared.Strand.TheVariants.{Plus, Minus}
 use Rattle.transcript.specs.Orient.{orient_base}
+use Rattle.consequence.specs.declared.Window.{Window as Lent}
 
 pub record Window : Type 0 where
   pub chromosome : ℕ
   pub first : ℕ
   pub bytes : List ℕ
 
--- lent bytes from a first coordinate on; the chromosome takes no part in reading
-abbrev pub window_from : ℕ → List ℕ → Window
-window_from first bytes = record { chromosome = 0; first = first; bytes = bytes }
-
--- the window that is given, as a `requires` names it, and that was given, as an `ensures` does
-abbrev pub window_given : ℕ → ℕ → Slice → Window
-window_given chromosome first bytes = record { chromosome = chromosome; first = first; bytes = bytes.now }
-
-abbrev pub window_was_given : ℕ → ℕ → Passed → Window
-window_was_given chromosome first bytes = window_given chromosome first bytes.entry
+-- the window whose bytes a struct lends
+abbrev pub window_of : Lent → Window
+window_of w = record { chromosome = w.chromosome; first = w.first; bytes = w.bytes.now }
 
 -- the coordinate lies in the window
 abbrev pub in_window : Window → ℕ → Bool

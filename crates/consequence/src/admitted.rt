@@ -1,27 +1,28 @@
 // The single-base call on an admitted transcript.
 ghost use Rattle.std.specs.Prelude.{◌≡◌};
 ghost use Rattle.transcript.specs.Transcript.{transcript_of};
-ghost use Rattle.consequence.specs.Window.{window_was_given};
+ghost use Rattle.consequence.specs.Window.{window_of};
 ghost use Rattle.consequence.specs.Call.{call_table, annotate_snv};
-ghost use Rattle.codon.specs.code.Letters.{AlteredLetters};
+ghost use Rattle.codon.specs.code.Letters.{LentLetters};
 ghost use Rattle.consequence.specs.code.Prepared.{Prepared};
 
 use super::placed::annotate_placed;
 use super::refusal::judge_opening;
-use super::{Call, Called};
+use super::{Call, Called, Window};
+use codon::CodeLetters;
 use footprint::Ranges;
 use locate::IndexScalars;
 use locate::place::place_of_base;
 use transcript::Transcript;
+use transcript::admission::Admitted;
 use transcript::question::base_of;
 
-// The answer from the transcript's index, or the refusal: 15, 14, 16, 17, 18, 19 and 21.
+// The answer from the transcript's index, or the refusal: 15, 14, 16, 17, 18, 19 and 21. The parts of the index stand apart, here and in what
+// is called: with one struct that lends them a call of a list took 3.5 to 5 ns longer, a tenth for short transcripts.
 pub fn annotate_admitted(
     ranges: Ranges,
-    letters: &[u8],
-    window_chromosome: u16,
-    window_first: u64,
-    window: &[u8],
+    letters: CodeLetters,
+    window: &Window,
     call: Call,
     transcript: &Transcript,
     scalars: IndexScalars,
@@ -30,24 +31,23 @@ pub fn annotate_admitted(
     selenocysteine_codons: &[u32; 64],
 ) -> Called
     requires prepared { Prepared (transcript_of transcript.now) scalars cumulative_exons.now cumulative_cds.now selenocysteine_codons.now }
-    requires letters { AlteredLetters (call_table (transcript_of transcript.now)) letters.now }
+    requires letters { LentLetters (call_table (transcript_of transcript.now)) letters }
     ensures { let t = transcript_of transcript.now in
-        let w = window_was_given window_chromosome window_first window in
+        let w = window_of window.now in
         result ≡ annotate_snv ranges t w call }
 {
-    judge_opening(
-        transcript.model.chromosome,
-        window_chromosome,
-        window_first,
-        window,
-        call,
-    )?;
+    judge_opening(transcript.model.chromosome, window, call)?;
     let p = base_of(transcript.model.strand, call.position);
-    let place = place_of_base(ranges, transcript, scalars, cumulative_exons, p);
+    let place = place_of_base::<true>(
+        ranges,
+        Admitted { transcript },
+        scalars,
+        cumulative_exons,
+        p,
+    );
     annotate_placed(
         ranges,
         letters,
-        window_first,
         window,
         call.alt_base,
         transcript,

@@ -3,31 +3,27 @@ ghost use Rattle.std.specs.Prelude.{◌≡◌, ◌+◌, ◌≤◌, ◌<◌, leng
 ghost use Rattle.consequence.specs.Answer.{cdna_count};
 ghost use Rattle.transcript.specs.Orient.{interval};
 ghost use Rattle.transcript.specs.Bases.{bases_in};
-ghost use Rattle.transcript.specs.code.Lent.{oriented_in};
-ghost use Rattle.locate.specs.code.Search.{Ready};
+ghost use Rattle.locate.specs.code.Ordered.{in_order};
 ghost use Rattle.locate.specs.code.Sums.{first_sum, Sums};
 
-use locate::CdnaPosition;
+use locate::{CdnaPosition, Ordered};
 use transcript::oriented::start_of;
-use transcript::{Intervals, Strand};
 
 // The position of p, an oriented base of exon i: the exonic bases before the exon and its place there, from 1.
 pub(crate) fn compute_cdna_position_exonic(
-    intervals: Intervals,
-    strand: Strand,
+    exons: Ordered,
     sums: &[u32],
     i: usize,
     p: u64,
 ) -> CdnaPosition
-    requires ready { Ready strand intervals.starts.now intervals.ends.now }
-    requires sums { Sums (oriented_in strand intervals) sums.now × (first_sum sums.now ≡ 0) }
-    requires held { let x = get_or (oriented_in strand intervals) i (interval 0 0) in
-        (i < length intervals.starts.now) × (x.start ≤ p) × (p < x.end) }
-    ensures { result.0 ≡ bases_in (oriented_in strand intervals.entry) 0 p + 1 }
+    requires sums { Sums (in_order exons) sums.now × (first_sum sums.now ≡ 0) }
+    requires held { let x = get_or (in_order exons) i (interval 0 0) in
+        (i < length exons.intervals.starts.now) × (x.start ≤ p) × (p < x.end) }
+    ensures { result.0 ≡ bases_in (in_order exons.entry) 0 p + 1 }
 {
-    let s = intervals.starts[i];
-    let e = intervals.ends[i];
-    let d = p - start_of(strand, s, e);
+    let s = exons.intervals.starts[i];
+    let e = exons.intervals.ends[i];
+    let d = p - start_of(exons.strand, s, e);
     CdnaPosition(sums[i] + d as u32 + 1)
 }
 

@@ -1,63 +1,59 @@
 // The codon of a coding base, read and translated.
 ghost use Rattle.std.specs.Prelude.{◌≡◌, Bool, List, ℕ, ◌<◌, ◌≤◌, length, get_or};
-ghost use Rattle.codon.specs.code.Letters.{AlteredLetters};
+ghost use Rattle.codon.specs.code.Letters.{LentLetters};
 ghost use Rattle.transcript.specs.Orient.{Oriented};
-ghost use Rattle.transcript.specs.code.Lent.{oriented_in};
+ghost use Rattle.locate.specs.code.Ordered.{in_order};
 ghost use Rattle.locate.specs.declared.VariantLocation.{VariantLocation};
 ghost use Rattle.common.specs.Stored.{filled};
 ghost use Rattle.locate.specs.Index.{selenocysteine_codons, index_scalars};
-ghost use Rattle.consequence.specs.Window.{window_from, coding_byte, coding_base};
+ghost use Rattle.consequence.specs.Window.{window_of, coding_byte, coding_base};
 ghost use Rattle.consequence.specs.Reading.{fetch_codon};
 ghost use Rattle.consequence.specs.code.AtPlace.{coding_called, columns_called};
 ghost use Rattle.consequence.specs.code.Segments.{Segments};
 
+use super::Window;
+use super::bases::coding_byte;
 use super::columns::{CodonColumns, read_codon};
 use super::letters::{is_padded_codon, is_start_codon};
 use super::reading::{fetch_ref_codon, is_incomplete_terminal_codon};
 use super::selenocysteine::holds_selenocysteine;
-use super::window::coding_byte;
-use locate::{CdsOffset, IndexScalars};
-use transcript::{Intervals, Strand};
+use codon::CodeLetters;
+use locate::{CdsOffset, IndexScalars, Ordered};
 
 // What the codon of that number at a padded offset gives, unless it is not all in the window, with `alt_base` put in at that place in it,
 // by the letters of a genetic code.
 // Segment `near` may hold the offset.
 pub fn read_cds_codon(
-    letters: &[u8],
+    letters: CodeLetters,
     scalars: IndexScalars,
     start_complete: bool,
-    strand: Strand,
-    intervals: Intervals,
+    segments: &Ordered,
     sums: &[u32],
     codons: &[u32; 64],
-    first: u64,
-    bytes: &[u8],
+    window: &Window,
     alt_base: u8,
     near: usize,
     offset: CdsOffset,
     number: u32,
     position: u8,
 ) -> Option<CodonColumns>
-    requires in_bounds { 768 ≤ length letters.now }
-    requires segments { Segments strand intervals.starts.now intervals.ends.now sums.now scalars.cds_start_pad }
-    requires segment_count_value { (scalars.segment_count ≡ length intervals.starts.now)
-        × (scalars.total_cds_length ≡ get_or sums.now (length intervals.starts.now) 0)
+    requires segments { Segments (in_order segments.now) sums.now scalars.cds_start_pad }
+    requires segment_count_value { (scalars.segment_count ≡ length segments.now.intervals.starts.now)
+        × (scalars.total_cds_length ≡ get_or sums.now (length segments.now.intervals.starts.now) 0)
         × (offset.0 < scalars.total_cds_length) }
     requires selenocysteine_count_bound { (scalars.selenocysteine_count ≤ 64) × (scalars.selenocysteine_count ≤ length codons.now) }
-    ensures { let base = coding_base strand (window_from first bytes.now) in
+    ensures { let base = coding_base segments.now.strand (window_of window.now) in
         ((table : List ℕ) (t : Oriented)
-        → AlteredLetters table letters.now
+        → LentLetters table letters.entry
         → scalars ≡ index_scalars t
         → t.start_complete ≡ start_complete
-        → t.segments ≡ oriented_in strand intervals.entry
+        → t.segments ≡ in_order segments.now
         → codons.now ≡ filled 64 (selenocysteine_codons t)
         → (p : ℕ) (place : VariantLocation) (i : ℕ) (mark : Bool)
         → columns_called t p place i offset number position mark result
-        ≡ coding_called table t p (coding_byte strand alt_base) place i offset number position mark (fetch_codon t base offset.0)) }
+        ≡ coding_called table t p (coding_byte segments.now.strand alt_base) place i offset number position mark (fetch_codon t base offset.0)) }
 {
-    let c = fetch_ref_codon(
-        scalars, strand, intervals, sums, first, bytes, near, offset.0,
-    )?;
+    let c = fetch_ref_codon(scalars, segments, sums, window, near, offset.0)?;
     Some(read_codon(
         letters,
         is_start_codon(scalars.cds_start_pad, start_complete, number),
@@ -66,6 +62,6 @@ pub fn read_cds_codon(
         holds_selenocysteine(codons, scalars.selenocysteine_count, number),
         c,
         position,
-        coding_byte(strand, alt_base),
+        coding_byte(segments.strand, alt_base),
     ))
 }

@@ -1,10 +1,10 @@
 // The genetic code of a chromosome.
 ghost use Rattle.std.specs.Prelude.{◌≡◌};
 ghost use Rattle.codon.specs.Table.{code_table};
-ghost use Rattle.codon.specs.code.Letters.{AlteredLetters, BothLetters};
+ghost use Rattle.codon.specs.code.Letters.{LentLetters};
 ghost use Rattle.consequence.specs.Call.{code_of};
 
-use codon::{GeneticCode, letters_of};
+use codon::{AllLetters, CodeLetters, GeneticCode, letters_of};
 
 // chrM, 25, has the vertebrate mitochondrial code.
 fn genetic_code(chromosome: u16) -> GeneticCode
@@ -17,9 +17,8 @@ fn genetic_code(chromosome: u16) -> GeneticCode
 }
 
 // The letters by which the codons of a transcript on that chromosome are read, out of those of both codes.
-pub fn call_letters(both: &[u8; 1536], chromosome: u16) -> &[u8]
-    requires { BothLetters both.now }
-    ensures { AlteredLetters (code_table (code_of chromosome)) result.now }
+pub fn call_letters(both: &AllLetters, chromosome: u16) -> CodeLetters
+    ensures { LentLetters (code_table (code_of chromosome)) result }
 {
     letters_of(both, genetic_code(chromosome))
 }

@@ -1,24 +1,24 @@
 // The answer at a coding base.
 ghost use Rattle.std.specs.Prelude.{◌≡◌, List, ℕ, ◌-◌, ◌+◌, ◌<◌, ◌≤◌, length, get_or};
-ghost use Rattle.codon.specs.code.Letters.{AlteredLetters};
+ghost use Rattle.codon.specs.code.Letters.{LentLetters};
 ghost use Rattle.transcript.specs.Limits.{top};
 ghost use Rattle.transcript.specs.Orient.{Oriented};
-ghost use Rattle.transcript.specs.code.Lent.{oriented_in};
+ghost use Rattle.locate.specs.code.Ordered.{in_order};
 ghost use Rattle.locate.specs.Place.{cdna_position};
 ghost use Rattle.common.specs.Stored.{filled};
 ghost use Rattle.locate.specs.Index.{selenocysteine_codons, index_scalars};
-ghost use Rattle.consequence.specs.Window.{window_from, coding_byte, coding_base};
+ghost use Rattle.consequence.specs.Window.{window_of, coding_byte, coding_base};
 ghost use Rattle.consequence.specs.Reading.{fetch_codon};
 ghost use Rattle.consequence.specs.code.AtPlace.{coding_called};
 ghost use Rattle.consequence.specs.code.Segments.{Segments};
 
-use super::Called;
 use super::cds_codon::read_cds_codon;
 use super::exonic::coding_result;
 use super::region::with_mark;
+use super::{Called, Window};
+use codon::CodeLetters;
 use common::refusal::Refusal;
-use locate::{CdsOffset, IndexScalars, VariantLocation, cdna_position};
-use transcript::{Intervals, Strand};
+use locate::{CdsOffset, IndexScalars, Ordered, VariantLocation, cdna_position};
 
 // The segment of exon i, where `first` is the first coding exon.
 fn near_segment(i: u16, first: u16) -> usize
@@ -33,17 +33,15 @@ fn near_segment(i: u16, first: u16) -> usize
 // A base of exon i at that padded offset, of that codon and place in it, marked or not, with `alt_base` put in. Refusal 21 where the
 // codon is not all in the window.
 pub(crate) fn annotate_cds_snv(
-    letters: &[u8],
+    letters: CodeLetters,
     place: VariantLocation,
     exons: u16,
     scalars: IndexScalars,
     start_complete: bool,
-    strand: Strand,
-    intervals: Intervals,
+    segments: &Ordered,
     sums: &[u32],
     codons: &[u32; 64],
-    first: u64,
-    bytes: &[u8],
+    window: &Window,
     alt_base: u8,
     i: u16,
     offset: CdsOffset,
@@ -51,38 +49,35 @@ pub(crate) fn annotate_cds_snv(
     position: u8,
     mark: bool,
 ) -> Called
-    requires in_bounds { 768 ≤ length letters.now }
-    requires segments { Segments strand intervals.starts.now intervals.ends.now sums.now scalars.cds_start_pad }
-    requires segment_count_value { (scalars.segment_count ≡ length intervals.starts.now)
-        × (scalars.total_cds_length ≡ get_or sums.now (length intervals.starts.now) 0)
+    requires segments { Segments (in_order segments.now) sums.now scalars.cds_start_pad }
+    requires segment_count_value { (scalars.segment_count ≡ length segments.now.intervals.starts.now)
+        × (scalars.total_cds_length ≡ get_or sums.now (length segments.now.intervals.starts.now) 0)
         × (offset.0 < scalars.total_cds_length) }
     requires selenocysteine_count_bound { (scalars.selenocysteine_count ≤ 64) × (scalars.selenocysteine_count ≤ length codons.now) }
     requires i_bound { (i < 65535)
         × (offset.0 ≤ 2 + top)
         × (scalars.cds_start_pad ≤ offset.0)
         × (scalars.utr5_exonic_len + (offset.0 - scalars.cds_start_pad) ≤ top) }
-    ensures { let base = coding_base strand (window_from first bytes.now) in
+    ensures { let base = coding_base segments.now.strand (window_of window.now) in
         ((table : List ℕ) (t : Oriented) (p : ℕ)
-        → AlteredLetters table letters.now
+        → LentLetters table letters.entry
         → length t.exons ≡ exons
         → scalars ≡ index_scalars t
         → t.start_complete ≡ start_complete
-        → t.segments ≡ oriented_in strand intervals.entry
+        → t.segments ≡ in_order segments.now
         → codons.now ≡ filled 64 (selenocysteine_codons t)
         → cdna_position t p ≡ scalars.utr5_exonic_len + (offset.0 - scalars.cds_start_pad) + 1
-        → result ≡ coding_called table t p (coding_byte strand alt_base)
+        → result ≡ coding_called table t p (coding_byte segments.now.strand alt_base)
         place i offset number position mark (fetch_codon t base offset.0)) }
 {
     let read = read_cds_codon(
         letters,
         scalars,
         start_complete,
-        strand,
-        intervals,
+        segments,
         sums,
         codons,
-        first,
-        bytes,
+        window,
         alt_base,
         near_segment(i, scalars.cds_start_exon_idx),
         offset,

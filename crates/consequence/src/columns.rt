@@ -1,15 +1,15 @@
 // What the codon of a coding base gives: codons, letters and terms.
-ghost use Rattle.std.specs.Prelude.{◌≡◌, List, ℕ, ◌≤◌, length};
+ghost use Rattle.std.specs.Prelude.{◌≡◌, List, ℕ};
 ghost use Rattle.transcript.specs.Orient.{Oriented};
 ghost use Rattle.codon.specs.Table.{build_alt_codon};
-ghost use Rattle.codon.specs.code.Letters.{AlteredLetters};
+ghost use Rattle.codon.specs.code.Letters.{LentLetters};
 ghost use Rattle.consequence.specs.Reading.{is_incomplete_terminal_codon, holds_selenocysteine};
 ghost use Rattle.consequence.specs.Coding.{is_start_codon, is_padded_codon};
 ghost use Rattle.consequence.specs.code.AtPlace.{columns_of};
 ghost use Rattle.consequence.specs.Answer.{incomplete_codon, whole_codon, read_codon};
 
 use super::letters::{shown_letters, shows_codon};
-use codon::{AminoAcids, Codon, build_alt_codon, translate_codons};
+use codon::{AminoAcids, CodeLetters, Codon, build_alt_codon, translate_codons};
 use terms::{Consequence, TermSet, coding_term};
 
 // Codon number and codons are shown or not; an answer has them as options, which cost moves where they are handed on.
@@ -62,7 +62,7 @@ fn whole_codon(
 
 // The codon c, whose base at place k becomes the base put in, by the letters of a genetic code.
 pub(crate) fn read_codon(
-    letters: &[u8],
+    letters: CodeLetters,
     start: bool,
     padded: bool,
     incomplete: bool,
@@ -71,9 +71,8 @@ pub(crate) fn read_codon(
     k: u8,
     b: u8,
 ) -> CodonColumns
-    requires { 768 ≤ length letters.now }
     ensures { (table : List ℕ) (t : Oriented) (offset number : ℕ)
-        → AlteredLetters table letters.now
+        → LentLetters table letters.entry
         → start ≡ is_start_codon t number
         → padded ≡ is_padded_codon t number
         → incomplete ≡ is_incomplete_terminal_codon t offset

@@ -3,6 +3,7 @@
 
 mod admitted;
 mod answer;
+mod bases;
 mod cdna;
 mod cds_codon;
 mod code;
@@ -20,9 +21,9 @@ mod selenocysteine;
 mod snv;
 mod spill;
 mod summed;
-mod window;
 
 pub use admitted::annotate_admitted;
+pub use bases::base_at;
 pub use cdna::cdna_count;
 pub use cds_codon::read_cds_codon;
 pub use code::call_letters;
@@ -37,7 +38,14 @@ pub use snv::annotate_snv;
 pub use spill::spill_at;
 pub use summed::annotate_summed;
 use terms::TermSet;
-pub use window::base_at;
+
+// A chromosome, the coordinate of its first base, and lent bytes, taken as they stand.
+#[derive(Clone, Copy)]
+pub struct Window<'a> {
+    pub chromosome: u16,
+    pub first: u64,
+    pub bytes: &'a [u8],
+}
 
 #[derive(Clone, Copy)]
 pub struct Call {

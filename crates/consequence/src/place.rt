@@ -1,32 +1,33 @@
 // The answer at a place, before the splice spill.
 ghost use Rattle.std.specs.Prelude.{◌≡◌};
-ghost use Rattle.codon.specs.code.Letters.{AlteredLetters};
+ghost use Rattle.codon.specs.code.Letters.{LentLetters};
 ghost use Rattle.transcript.specs.Transcript.{transcript_of};
 ghost use Rattle.transcript.specs.Orient.{oriented};
 ghost use Rattle.locate.specs.Place.{locate};
-ghost use Rattle.consequence.specs.Window.{window_from, coding_byte};
+ghost use Rattle.consequence.specs.Window.{window_of, coding_byte};
 ghost use Rattle.consequence.specs.Call.{call_table, call_codon};
 ghost use Rattle.consequence.specs.code.AtPlace.{place_called};
 ghost use Rattle.consequence.specs.code.Prepared.{Prepared};
 
-use super::Called;
 use super::answer::{flank_result, intron_result};
 use super::cdna::compute_cdna_position_exonic;
 use super::coding::annotate_cds_snv;
 use super::exonic::exon_result;
 use super::region::{Region, region_of, with_mark};
+use super::{Called, Window};
+use codon::CodeLetters;
 use common::refusal::Refusal;
 use footprint::Ranges;
-use locate::{IndexScalars, VariantLocation};
+use locate::{IndexScalars, Ordered, VariantLocation};
 use terms::TermSet;
 use transcript::Transcript;
+use transcript::admission::Admitted;
 
 // `place` is that of p, an oriented base, and `alt_base` is put in there. Refusals 19 and 21.
 pub(crate) fn annotate_place(
     ranges: Ranges,
-    letters: &[u8],
-    first: u64,
-    bytes: &[u8],
+    letters: CodeLetters,
+    window: &Window,
     alt_base: u8,
     transcript: &Transcript,
     scalars: IndexScalars,
@@ -38,13 +39,12 @@ pub(crate) fn annotate_place(
 ) -> Called
     requires prepared { Prepared (transcript_of transcript.now) scalars cumulative_exons.now cumulative_cds.now selenocysteine_codons.now }
     requires located { place ≡ locate ranges (oriented (transcript_of transcript.now)) p }
-    requires letters { AlteredLetters (call_table (transcript_of transcript.now)) letters.now }
+    requires letters { LentLetters (call_table (transcript_of transcript.now)) letters }
     ensures { let t = transcript_of transcript.now in
-        let w = window_from first bytes.now in
+        let w = window_of window.now in
         result ≡ place_called (call_table t) (oriented t) p (coding_byte transcript.now.model.strand alt_base) (call_codon t w) place }
 {
     let exons = transcript.model.exon_count;
-    let strand = transcript.model.strand;
     let region = region_of(place, 0 < transcript.segments.bases.starts.len());
     match region {
         Region::Distal => Err(Refusal::Distal),
@@ -55,8 +55,7 @@ pub(crate) fn annotate_place(
         }
         Region::Exon { index, term, mark } => {
             let cdna = compute_cdna_position_exonic(
-                transcript.exons,
-                strand,
+                Ordered::exons(Admitted { transcript }),
                 cumulative_exons,
                 index as usize,
                 p,
@@ -76,12 +75,10 @@ pub(crate) fn annotate_place(
             exons,
             scalars,
             transcript.model.cds_start_complete,
-            strand,
-            transcript.segments.bases,
+            &Ordered::segments(Admitted { transcript }),
             cumulative_cds,
             selenocysteine_codons,
-            first,
-            bytes,
+            window,
             alt_base,
             index,
             offset,

@@ -1,29 +1,30 @@
 // The answer at a place, with its splice spill.
 ghost use Rattle.std.specs.Prelude.{◌≡◌, ◌≤◌};
-ghost use Rattle.codon.specs.code.Letters.{AlteredLetters};
+ghost use Rattle.codon.specs.code.Letters.{LentLetters};
 ghost use Rattle.transcript.specs.Limits.{top};
 ghost use Rattle.transcript.specs.Transcript.{transcript_of};
 ghost use Rattle.transcript.specs.Orient.{oriented};
 ghost use Rattle.locate.specs.Place.{locate};
-ghost use Rattle.consequence.specs.Window.{window_from, coding_byte};
+ghost use Rattle.consequence.specs.Window.{window_of, coding_byte};
 ghost use Rattle.consequence.specs.Call.{call_table, call_codon};
 ghost use Rattle.consequence.specs.code.AtPlace.{place_called, spilled, spill_at};
 ghost use Rattle.consequence.specs.code.Prepared.{Prepared};
 
-use super::Called;
 use super::answer::add_splice_spill;
 use super::place::annotate_place;
 use super::spill::spill_at;
+use super::{Called, Window};
+use codon::CodeLetters;
 use footprint::Ranges;
-use locate::{IndexScalars, VariantLocation};
+use locate::{IndexScalars, Ordered, VariantLocation};
 use transcript::Transcript;
+use transcript::admission::Admitted;
 
 // `place` is that of p, an oriented base, and `alt_base` is put in there. Refusals 19 and 21.
 pub fn annotate_placed(
     ranges: Ranges,
-    letters: &[u8],
-    first: u64,
-    bytes: &[u8],
+    letters: CodeLetters,
+    window: &Window,
     alt_base: u8,
     transcript: &Transcript,
     scalars: IndexScalars,
@@ -35,18 +36,17 @@ pub fn annotate_placed(
 ) -> Called
     requires prepared { Prepared (transcript_of transcript.now) scalars cumulative_exons.now cumulative_cds.now selenocysteine_codons.now }
     requires located { place ≡ locate ranges (oriented (transcript_of transcript.now)) p }
-    requires letters { AlteredLetters (call_table (transcript_of transcript.now)) letters.now }
+    requires letters { LentLetters (call_table (transcript_of transcript.now)) letters }
     requires low { p ≤ top }
     ensures { let t = transcript_of transcript.now in
-        let w = window_from first bytes.now in
+        let w = window_of window.now in
         let x = place_called (call_table t) (oriented t) p (coding_byte transcript.now.model.strand alt_base) (call_codon t w) place in
         result ≡ spilled (spill_at (oriented t) p) x }
 {
     let result = annotate_place(
         ranges,
         letters,
-        first,
-        bytes,
+        window,
         alt_base,
         transcript,
         scalars,
@@ -58,8 +58,7 @@ pub fn annotate_placed(
     )?;
     let spill = spill_at(
         scalars.has_frameshift_intron,
-        transcript.exons,
-        transcript.model.strand,
+        Ordered::exons(Admitted { transcript }),
         p,
     );
     Ok(add_splice_spill(spill, result))

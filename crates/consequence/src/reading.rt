@@ -3,16 +3,17 @@ ghost use Rattle.std.specs.Prelude.{◌≡◌, ◌+◌, ◌-◌, ◌<◌, ◌≤
 ghost use Rattle.transcript.specs.Limits.{coordinate_limit};
 ghost use Rattle.transcript.specs.Orient.{Oriented, orient, orient_base};
 ghost use Rattle.locate.specs.Place.{total_cds_length};
-ghost use Rattle.transcript.specs.code.Lent.{oriented_in};
-ghost use Rattle.consequence.specs.Window.{window_from, coding_base};
+ghost use Rattle.locate.specs.code.Ordered.{in_order};
+ghost use Rattle.consequence.specs.Window.{window_of, coding_base};
 ghost use Rattle.consequence.specs.Reading.{cds_base, incomplete_at, length_at, fetch_codon};
 ghost use Rattle.consequence.specs.code.Segments.{Segments, Held};
 
+use super::Window;
+use super::bases::coding_base_at;
 use super::segment::{next_segment, segment_near};
-use super::window::coding_base_at;
 use codon::Codon;
-use locate::IndexScalars;
-use transcript::{Intervals, Strand};
+use locate::{IndexScalars, Ordered};
+use transcript::Strand;
 
 // Base d of [s, e) in strand order, as a coordinate.
 fn nth_base(strand: Strand, s: u64, e: u64, d: u64) -> u64
@@ -28,30 +29,28 @@ fn nth_base(strand: Strand, s: u64, e: u64, d: u64) -> u64
 // The base at padded offset k, in segment i; a pad place reads N.
 fn cds_base(
     pad: u32,
-    strand: Strand,
-    intervals: Intervals,
+    segments: &Ordered,
     sums: &[u32],
     i: usize,
-    first: u64,
-    bytes: &[u8],
+    window: &Window,
     k: u32,
 ) -> Option<u8>
-    requires segments { Segments strand intervals.starts.now intervals.ends.now sums.now pad }
-    requires held { Held sums.now (length intervals.starts.now) k i }
-    ensures { let base = coding_base strand (window_from first bytes.now) in
+    requires segments { Segments (in_order segments.now) sums.now pad }
+    requires held { Held sums.now (length segments.now.intervals.starts.now) k i }
+    ensures { let base = coding_base segments.now.strand (window_of window.now) in
         ((t : Oriented)
         → t.pad ≡ pad
-        → t.segments ≡ oriented_in strand intervals.entry
+        → t.segments ≡ in_order segments.now
         → result ≡ cds_base t base k) }
 {
     if k < pad {
         return Some(b'N');
     }
-    let s = intervals.starts[i];
-    let e = intervals.ends[i];
+    let s = segments.intervals.starts[i];
+    let e = segments.intervals.ends[i];
     let d = k - sums[i];
-    let p = nth_base(strand, s, e, d as u64);
-    coding_base_at(strand, first, bytes, p)
+    let p = nth_base(segments.strand, s, e, d as u64);
+    coding_base_at(segments.strand, window, p)
 }
 
 // Whether the padded offset lies in an unfinished last codon; `total` is the padded length of the CDS.
@@ -90,21 +89,20 @@ fn codon_of(len: u8, first: u8, second: u8, third: u8) -> Codon
 // is needed.
 pub(crate) fn fetch_ref_codon(
     scalars: IndexScalars,
-    strand: Strand,
-    intervals: Intervals,
+    segments: &Ordered,
     sums: &[u32],
-    first: u64,
-    bytes: &[u8],
+    window: &Window,
     near: usize,
     k: u32,
 ) -> Option<Codon>
-    requires segments { Segments strand intervals.starts.now intervals.ends.now sums.now scalars.cds_start_pad }
-    requires segment_count_value { scalars.segment_count ≡ length intervals.starts.now }
-    requires total_cds_length_value { (scalars.total_cds_length ≡ get_or sums.now (length intervals.starts.now) 0) × (k < scalars.total_cds_length) }
-    ensures { let base = coding_base strand (window_from first bytes.now) in
+    requires segments { Segments (in_order segments.now) sums.now scalars.cds_start_pad }
+    requires segment_count_value { scalars.segment_count ≡ length segments.now.intervals.starts.now }
+    requires total_cds_length_value { (scalars.total_cds_length ≡ get_or sums.now (length segments.now.intervals.starts.now) 0)
+        × (k < scalars.total_cds_length) }
+    ensures { let base = coding_base segments.now.strand (window_of window.now) in
         ((t : Oriented)
         → t.pad ≡ scalars.cds_start_pad
-        → t.segments ≡ oriented_in strand intervals.entry
+        → t.segments ≡ in_order segments.now
         → total_cds_length t ≡ scalars.total_cds_length
         → result ≡ fetch_codon t base k) }
 {
@@ -112,16 +110,16 @@ pub(crate) fn fetch_ref_codon(
     let len = codon_length(scalars.total_cds_length, k);
     let from = k - k % 3;
     let i = segment_near(sums, scalars.segment_count, near, from);
-    let x = cds_base(pad, strand, intervals, sums, i, first, bytes, from)?;
+    let x = cds_base(pad, segments, sums, i, window, from)?;
     if len < 2 {
         return Some(codon_of(len, x, 0, 0));
     }
     let j = next_segment(sums, i, from + 1);
-    let y = cds_base(pad, strand, intervals, sums, j, first, bytes, from + 1)?;
+    let y = cds_base(pad, segments, sums, j, window, from + 1)?;
     if len < 3 {
         return Some(codon_of(len, x, y, 0));
     }
     let l = next_segment(sums, j, from + 2);
-    let z = cds_base(pad, strand, intervals, sums, l, first, bytes, from + 2)?;
+    let z = cds_base(pad, segments, sums, l, window, from + 2)?;
     Some(codon_of(len, x, y, z))
 }

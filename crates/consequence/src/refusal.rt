@@ -3,11 +3,11 @@ ghost use Rattle.std.specs.Prelude.{◌≡◌, not, ◌||◌, eqb};
 ghost use Rattle.common.specs.Refusal.{outcome};
 ghost use Rattle.transcript.specs.Transcript.{Transcript};
 ghost use Rattle.transcript.specs.Admission.{admission};
-ghost use Rattle.consequence.specs.Window.{window_from, window_was_given};
+ghost use Rattle.consequence.specs.Window.{window_of};
 ghost use Rattle.consequence.specs.Call.{bad_alt, window_refusal, opening_refusal};
 
-use super::Call;
-use super::window::base_at;
+use super::bases::base_at;
+use super::{Call, Window};
 use codon::is_base;
 use common::refusal::Refusal;
 use transcript::question::QUERY_LIMIT;
@@ -27,10 +27,10 @@ fn is_elsewhere(chromosome: u16, call: u16, window: u16) -> bool
 }
 
 // 17 for a position outside the window, 18 for another byte there.
-fn judge_base(first: u64, bytes: &[u8], call: Call) -> Result<(), Refusal>
-    ensures { result ≡ outcome (window_refusal (window_from first bytes.now) call) tt }
+fn judge_base(window: &Window, call: Call) -> Result<(), Refusal>
+    ensures { result ≡ outcome (window_refusal (window_of window.now) call) tt }
 {
-    let Some(found) = base_at(first, bytes, call.position) else {
+    let Some(found) = base_at(window, call.position) else {
         return Err(Refusal::OutsideWindow);
     };
     if call.ref_base != found {
@@ -40,26 +40,20 @@ fn judge_base(first: u64, bytes: &[u8], call: Call) -> Result<(), Refusal>
 }
 
 // 15, 14, 16, 17 and 18. The call asks about [p, p + 1).
-pub fn judge_opening(
-    chromosome: u16,
-    window_chromosome: u16,
-    first: u64,
-    bytes: &[u8],
-    call: Call,
-) -> Result<(), Refusal>
+pub fn judge_opening(chromosome: u16, window: &Window, call: Call) -> Result<(), Refusal>
     ensures { (t : Transcript)
         → admission t ≡ 0
         → t.model.chromosome ≡ chromosome
-        → result ≡ outcome (opening_refusal t (window_was_given window_chromosome first bytes) call) tt }
+        → result ≡ outcome (opening_refusal t (window_of window.now) call) tt }
 {
     if QUERY_LIMIT <= call.position {
         return Err(Refusal::Interval);
     }
-    if is_elsewhere(chromosome, call.chromosome, window_chromosome) {
+    if is_elsewhere(chromosome, call.chromosome, window.chromosome) {
         return Err(Refusal::Chromosome);
     }
     if bad_alt(call) {
         return Err(Refusal::AlteredBase);
     }
-    judge_base(first, bytes, call)
+    judge_base(window, call)
 }

@@ -1,37 +1,21 @@
 // The segment that holds a padded offset, from the cumulative coding lengths.
 ghost use Rattle.std.specs.Prelude.{◌≡◌, cond, ◌+◌, ◌≤◌, ◌<◌, length, get_or, ltb};
-ghost use Rattle.consequence.specs.code.Segments.{Held};
+ghost use Rattle.consequence.specs.code.Segments.{Rising, Held};
 
-// Of `count` segments the one that holds padded offset k, and the first for a pad place: a binary search.
+// Of `count` segments the one that holds padded offset k, and the first for a pad place: the last that does not begin behind k.
 pub(crate) fn segment_of(sums: &[u32], count: usize, k: u32) -> usize
     requires { (0 < count) × (count ≤ 512) × (count < length sums.now) × (k < get_or sums.now count 0) }
-    ensures { Held sums.now count k result }
+    ensures { Rising sums.now count → Held sums.now count k result }
 {
-    let mut lo: usize = 0;
-    let mut hi = count;
-    while lo + 1 < hi {
-        let mid = lo + (hi - lo) / 2;
-        if sums[mid] <= k {
-            lo = mid;
-        } else {
-            hi = mid;
-        }
-    }
-    lo
+    sums[1..count].partition_point(|sum| *sum <= k)
 }
 
 // The same, looked for first where a base of the codon is, in segment `near`: mostly it is there.
 pub(crate) fn segment_near(sums: &[u32], count: usize, near: usize, k: u32) -> usize
     requires { (0 < count) × (count ≤ 512) × (count < length sums.now) × (k < get_or sums.now count 0) }
-    ensures { Held sums.now count k result }
+    ensures { Rising sums.now count → Held sums.now count k result }
 {
-    if count <= near {
-        return segment_of(sums, count, k);
-    }
-    if k < sums[near] {
-        return segment_of(sums, count, k);
-    }
-    if sums[near + 1] <= k {
+    if count <= near || k < sums[near] || sums[near + 1] <= k {
         return segment_of(sums, count, k);
     }
     near

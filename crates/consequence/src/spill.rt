@@ -4,49 +4,44 @@ ghost use Rattle.common.specs.Lists.{any};
 ghost use Rattle.transcript.specs.Limits.{top};
 ghost use Rattle.transcript.specs.Orient.{interval, Oriented};
 ghost use Rattle.transcript.specs.Bases.{gaps};
-ghost use Rattle.transcript.specs.code.Lent.{oriented_in};
-ghost use Rattle.footprint.specs.code.Lent.{gaps_in};
 ghost use Rattle.footprint.specs.ShortIntron.{is_frameshift_gap, donor_window, acceptor_window, spills_into, exonic_splice_spill};
-ghost use Rattle.locate.specs.code.Search.{Ready, Started};
+ghost use Rattle.locate.specs.code.Ordered.{in_order};
+ghost use Rattle.locate.specs.code.Search.{Started};
 
 use footprint::{SpliceSpill, acceptor_spill, donor_spill};
-use locate::started;
-use transcript::{Intervals, Strand};
+use locate::Ordered;
 
 // Whether p, an oriented base, hits a donor window; n exons start at or before it.
-fn hits_donor(intervals: Intervals, strand: Strand, n: usize, p: u64) -> bool
-    requires ready { Ready strand intervals.starts.now intervals.ends.now }
-    requires n_in_bounds { (n ≤ length intervals.starts.now) × Started (oriented_in strand intervals) p n }
-    ensures { result ≡ any (spills_into donor_window (interval p (p + 1))) (gaps_in strand intervals.entry) }
+fn hits_donor(exons: Ordered, n: usize, p: u64) -> bool
+    requires n_in_bounds { (n ≤ length exons.intervals.starts.now) × Started (in_order exons) p n }
+    ensures { result ≡ any (spills_into donor_window (interval p (p + 1))) (gaps (in_order exons.entry)) }
 {
     if n < 2 {
         return false;
     }
-    donor_spill(intervals, strand, n - 2, p)
+    donor_spill(exons.intervals, exons.strand, n - 2, p)
 }
 
 // Whether p hits an acceptor window.
-fn hits_acceptor(intervals: Intervals, strand: Strand, n: usize, p: u64) -> bool
-    requires ready { Ready strand intervals.starts.now intervals.ends.now }
-    requires n_in_bounds { (n ≤ length intervals.starts.now) × Started (oriented_in strand intervals) p n }
+fn hits_acceptor(exons: Ordered, n: usize, p: u64) -> bool
+    requires n_in_bounds { (n ≤ length exons.intervals.starts.now) × Started (in_order exons) p n }
     requires p_le_top { p ≤ top }
-    ensures { result ≡ any (spills_into acceptor_window (interval p (p + 1))) (gaps_in strand intervals.entry) }
+    ensures { result ≡ any (spills_into acceptor_window (interval p (p + 1))) (gaps (in_order exons.entry)) }
 {
     if n == 0 {
         return false;
     }
-    if n == intervals.starts.len() {
+    if n == exons.intervals.starts.len() {
         return false;
     }
-    acceptor_spill(intervals, strand, n - 1, p)
+    acceptor_spill(exons.intervals, exons.strand, n - 1, p)
 }
 
 // The windows that p, an oriented base, hits. Without a short intron, `short`, there are none.
-pub fn spill_at(short: bool, intervals: Intervals, strand: Strand, p: u64) -> SpliceSpill
-    requires ready { Ready strand intervals.starts.now intervals.ends.now }
+pub fn spill_at(short: bool, exons: Ordered, p: u64) -> SpliceSpill
     requires p_le_top { p ≤ top }
     ensures { (t : Oriented)
-        → t.exons ≡ oriented_in strand intervals.entry
+        → t.exons ≡ in_order exons.entry
         → short ≡ any is_frameshift_gap (gaps t.exons)
         → result ≡ exonic_splice_spill t (interval p (p + 1)) }
 {
@@ -56,9 +51,9 @@ pub fn spill_at(short: bool, intervals: Intervals, strand: Strand, p: u64) -> Sp
             acceptor: false,
         };
     }
-    let n = started(intervals, strand, p);
+    let n = exons.started(p);
     SpliceSpill {
-        donor: hits_donor(intervals, strand, n, p),
-        acceptor: hits_acceptor(intervals, strand, n, p),
+        donor: hits_donor(exons, n, p),
+        acceptor: hits_acceptor(exons, n, p),
     }
 }

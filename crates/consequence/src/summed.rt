@@ -1,25 +1,26 @@
 // The single-base call on an admitted transcript whose lengths are summed up.
 ghost use Rattle.std.specs.Prelude.{◌≡◌};
 ghost use Rattle.transcript.specs.Transcript.{transcript_of};
-ghost use Rattle.consequence.specs.Window.{window_was_given};
+ghost use Rattle.consequence.specs.Window.{window_of};
 ghost use Rattle.consequence.specs.Call.{call_table, annotate_snv};
-ghost use Rattle.codon.specs.code.Letters.{AlteredLetters};
+ghost use Rattle.codon.specs.code.Letters.{LentLetters};
 ghost use Rattle.consequence.specs.code.Prepared.{Summed};
 
 use super::admitted::annotate_admitted;
-use super::{Call, Called};
+use super::{Call, Called, Window};
+use codon::CodeLetters;
 use footprint::Ranges;
-use locate::{scalars_of, selenocysteine_codons};
+use locate::{Ordered, scalars_of, selenocysteine_codons};
 use transcript::Transcript;
+use transcript::admission::Admitted;
 
 // The answer from the cumulative lengths of exons and CDS and whether there is a short intron, or the number of the refusal: 15,
 // 14, 16, 17, 18, 19 and 21.
+// The sums apart, as in annotate_admitted.
 pub fn annotate_summed(
     ranges: Ranges,
-    letters: &[u8],
-    window_chromosome: u16,
-    window_first: u64,
-    window: &[u8],
+    letters: CodeLetters,
+    window: &Window,
     call: Call,
     transcript: &Transcript,
     cumulative_exons: &[u32],
@@ -27,16 +28,15 @@ pub fn annotate_summed(
     short: bool,
 ) -> Called
     requires summed { Summed (transcript_of transcript.now) cumulative_exons.now cumulative_cds.now short }
-    requires letters { AlteredLetters (call_table (transcript_of transcript.now)) letters.now }
+    requires letters { LentLetters (call_table (transcript_of transcript.now)) letters }
     ensures { let t = transcript_of transcript.now in
-        let w = window_was_given window_chromosome window_first window in
+        let w = window_of window.now in
         result ≡ annotate_snv ranges t w call }
 {
-    let scalars = scalars_of(transcript, cumulative_exons, cumulative_cds, short);
-    let strand = transcript.model.strand;
+    let admitted = Admitted { transcript };
+    let scalars = scalars_of(admitted, cumulative_exons, cumulative_cds, short);
     let codons = selenocysteine_codons(
-        transcript.segments.bases,
-        strand,
+        &Ordered::segments(admitted),
         cumulative_cds,
         transcript.selenocysteine,
     );
@@ -44,8 +44,6 @@ pub fn annotate_summed(
     annotate_admitted(
         ranges,
         letters,
-        window_chromosome,
-        window_first,
         window,
         call,
         transcript,

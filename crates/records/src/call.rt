@@ -1,27 +1,27 @@
-// The single-base call on exons that are lent as records, through a window that holds its bytes.
+// The single-base call on exons that are lent as records.
 ghost use Rattle.std.specs.Prelude.{◌≡◌};
 ghost use Rattle.footprint.specs.Ranges.{source_ranges};
+ghost use Rattle.consequence.specs.Window.{window_of};
 ghost use Rattle.consequence.specs.Call.{annotate_snv};
 ghost use Rattle.records.specs.Records.{records_lent};
 ghost use Rattle.records.specs.code.Table.{OnRecords, call_asked};
-ghost use Rattle.records.specs.Windows.{window_of};
 
+use super::ExonTable;
 use super::table::table_of;
-use super::{ExonTable, Window};
 use common::refusal::Refusal;
-use consequence::{Call, Called, annotate_snv};
+use consequence::{Call, Called, Window, annotate_snv};
 use transcript::{CdsSegments, Exon, Intervals, Transcript, TranscriptModel};
 
 // The call on the records of a table; over 512 records are refusal 1.
 fn annotate_table(
-    window: Window,
+    window: &Window,
     call: Call,
     model: TranscriptModel,
     table: &ExonTable,
     segments: CdsSegments,
     selenocysteine: &[u64],
 ) -> Called
-    ensures { OnRecords (call_asked (window_of window.entry) call) model table.now segments.entry selenocysteine.now result }
+    ensures { OnRecords (call_asked (window_of window.now) call) model table.now segments.entry selenocysteine.now result }
 {
     let n = table.count;
     if 512 < n {
@@ -36,18 +36,12 @@ fn annotate_table(
         segments,
         selenocysteine,
     };
-    annotate_snv(
-        window.chromosome,
-        window.first,
-        window.bytes,
-        call,
-        &transcript,
-    )
+    annotate_snv(window, call, &transcript)
 }
 
 // The whole answer to a call, or its refusal.
 pub fn annotate_exons(
-    window: Window,
+    window: &Window,
     call: Call,
     model: TranscriptModel,
     exons: &[Exon],
@@ -55,7 +49,7 @@ pub fn annotate_exons(
     selenocysteine: &[u64],
 ) -> Called
     ensures { let t = records_lent model exons.now segments.entry selenocysteine.now in
-        result ≡ annotate_snv source_ranges t (window_of window.entry) call }
+        result ≡ annotate_snv source_ranges t (window_of window.now) call }
 {
     annotate_table(
         window,

@@ -1,4 +1,4 @@
-// Entries over lent records: exons as a slice of records, and the window as a struct that holds its bytes.
+// Entries over lent records: exons as a slice of records.
 #![tactic(auto)]
 
 mod bases;
@@ -8,6 +8,7 @@ mod table;
 
 pub use bases::{base_at, in_window};
 pub use call::annotate_exons;
+pub use consequence::Window;
 pub use place::locate_exons;
 
 // The number of exons, and the starts and the ends of up to 512 of them, then zeros. Columns, since locate is lent slices of
@@ -17,12 +18,4 @@ pub struct ExonTable {
     pub count: usize,
     pub starts: [u64; 512],
     pub ends: [u64; 512],
-}
-
-// A chromosome, the coordinate of its first base, and lent bytes, taken as they stand.
-#[derive(Clone, Copy)]
-pub struct Window<'a> {
-    pub chromosome: u16,
-    pub first: u64,
-    pub bytes: &'a [u8],
 }

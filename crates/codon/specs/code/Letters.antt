@@ -1,6 +1,7 @@
 -- The altered letters as they are lent.
 use Rattle.std.specs.Prelude.{ℕ, ◌+◌, ◌*◌, ◌/◌, ◌%◌, ◌≤◌, ◌<◌, ◌≡◌, List, length, get_or, drop}
 use Rattle.codon.specs.declared.GeneticCode.{GeneticCode}
+use Rattle.codon.specs.declared.CodeLetters.{CodeLetters}
 use Rattle.codon.specs.Table.{code_table}
 use Rattle.codon.specs.Altered.{altered_letter}
 
@@ -12,6 +13,10 @@ entry_by_place table n = altered_letter table (n / 4 % 64 * 12 + n / 256 * 4 + n
 pub record AlteredLetters (table letters : List ℕ) : Type 0 where
   pub long : 768 ≤ length letters
   pub entry : (n : ℕ) → n < 768 → get_or letters n 0 ≡ entry_by_place table n
+
+-- the letters that a struct lends
+abbrev pub LentLetters : List ℕ → CodeLetters → Type 0
+LentLetters table l = AlteredLetters table l.bytes.now
 
 -- those of the standard code come first
 abbrev pub code_number : GeneticCode → ℕ

@@ -7,6 +7,6 @@ use Rattle.codon.specs.Altered.{altered_letter}
 use Rattle.codon.proofs.Stored.{each_entry, both_letters}
 use Rattle.codon.proofs.altered.altered_letters.Goals as goal
 
-pub returns : goal.returns
+pub invariant_of-result : goal.invariant_of-result
 unfolding altered_letter translate_codon standard_table mitochondrial_table build_alt_codon codon_to_index base_number base_byte
-returns c = both_letters _ refl (λ n h. entry_at each_entry 1536 n h 0)
+invariant_of-result c = record { both = both_letters _ refl (λ n h. entry_at each_entry 1536 n h 0) }

@@ -5,4 +5,4 @@ use Rattle.codon.proofs.translate.own_letter.Goals as goal
 
 pub returns-in-Some : goal.returns-in-Some
 returns-in-Some c = λ table e.
-    c.altered_letter.ensures table e ∙ own_is table c.args.c c.in-Some.n (sym c.requires.index_value ∙ c.in-Some.is)
+    c.altered_letter.ensures table e ∙ own_is table c.args.c c.in-Some.n (sym c.requires ∙ c.in-Some.is)

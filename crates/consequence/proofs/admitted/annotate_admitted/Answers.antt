@@ -8,7 +8,7 @@ use Rattle.common.specs.Refusal.{outcome}
 use Rattle.transcript.specs.Transcript.{Transcript, transcript_of}
 use Rattle.transcript.specs.Orient.{orient_base}
 use Rattle.transcript.proofs.Asking.{base_low}
-use Rattle.consequence.specs.Window.{Window}
+use Rattle.consequence.specs.Window.{Window, window_of}
 use Rattle.consequence.specs.Call.{opening_refusal}
 use Rattle.consequence.proofs.Refusals.{opening_within}
 use Rattle.consequence.proofs.Calling.{refused, answered}
@@ -19,7 +19,7 @@ abbrev transcript : Start → Transcript
 transcript b = transcript_of b.args.transcript.now
 
 abbrev window : Start → Window
-window b = record { chromosome = b.args.window_chromosome; first = b.args.window_first; bytes = b.args.window.now }
+window b = window_of b.args.window.now
 
 pub returns-in_err-judge_opening : goal.returns-in_err-judge_opening
 returns-in_err-judge_opening c =
@@ -40,7 +40,7 @@ place_of_base-place-requires c =
     let b = (goal.at.place_of_base-place-requires c).Start in
     let o = opened b c.judge_opening.result c.in_ok-judge_opening.field-0 (c.judge_opening.ensures (transcript b) c.requires.prepared.admitted refl) c.in_ok-judge_opening.was in
     let h = c.requires.prepared in
-    record { admitted = h.admitted; indexed = (h.scalars_are, h.exons_are); low = low b c.base_of-p.result c.base_of-p.ensures o }
+    record { indexed = (h.scalars_are, h.exons_are); low = low b c.base_of-p.result c.base_of-p.ensures o }
 
 pub annotate_placed-requires : goal.annotate_placed-requires
 annotate_placed-requires c =

@@ -19,20 +19,20 @@ use Rattle.consequence.proofs.cdna.compute_cdna_position_exonic.Goals.{Start}
 abbrev on : (b : Start) → {P : (σ : Strand) (ss es sums : List ℕ) (i p from : ℕ) → Type 0}
     → ((σ : Strand) (ss es sums : List ℕ) (i p : ℕ) (r : Ready σ ss es) (s : Sums (lent_exons σ ss es) sums) (z : first_sum sums ≡ 0) (l : i < length ss)
     (a : (get_or (lent_exons σ ss es) i nowhere).start ≤ p) (e : p < (get_or (lent_exons σ ss es) i nowhere).end) (from : ℕ) (f : from ≡ (orient σ (get_or ss i 0) (get_or es i 0)).start) → P σ ss es sums i p from)
-    → (from : ℕ) → from ≡ (orient b.args.strand (get_or b.args.intervals.starts.now b.args.i 0) (get_or b.args.intervals.ends.now b.args.i 0)).start
-    → P b.args.strand b.args.intervals.starts.now b.args.intervals.ends.now b.args.sums.now b.args.i b.args.p from
+    → (from : ℕ) → from ≡ (orient b.args.exons.strand (get_or b.args.exons.intervals.starts.now b.args.i 0) (get_or b.args.exons.intervals.ends.now b.args.i 0)).start
+    → P b.args.exons.strand b.args.exons.intervals.starts.now b.args.exons.intervals.ends.now b.args.sums.now b.args.i b.args.p from
 on b f from e =
-    f b.args.strand b.args.intervals.starts.now b.args.intervals.ends.now b.args.sums.now b.args.i b.args.p
-    b.requires.ready b.requires.sums.0 b.requires.sums.1 b.requires.held.0 b.requires.held.1 b.requires.held.2 from e
+    f b.args.exons.strand b.args.exons.intervals.starts.now b.args.exons.intervals.ends.now b.args.sums.now b.args.i b.args.p
+    b.args.exons.ready b.requires.sums.0 b.requires.sums.1 b.requires.held.0 b.requires.held.1 b.requires.held.2 from e
 
 pub overflow_sub-d : goal.overflow_sub-d
 overflow_sub-d c = on (goal.at.overflow_sub-d c).Start from_le c.start_of.result c.start_of.ensures
 
 pub bounds-sums-i : goal.bounds-sums-i
-bounds-sums-i c = let n = count c.args.strand c.args.intervals.starts.now c.args.intervals.ends.now c.requires.ready in let r = c.requires.sums.0.reach in omega arith
+bounds-sums-i c = let n = count c.args.exons.strand c.args.exons.intervals.starts.now c.args.exons.intervals.ends.now c.args.exons.ready in let r = c.requires.sums.0.reach in omega arith
 
 -- the bases before the exon and the place in it
-read_low : (b : Start) (from : ℕ) → from ≡ (orient b.args.strand (get_or b.args.intervals.starts.now b.args.i 0) (get_or b.args.intervals.ends.now b.args.i 0)).start
+read_low : (b : Start) (from : ℕ) → from ≡ (orient b.args.exons.strand (get_or b.args.exons.intervals.starts.now b.args.i 0) (get_or b.args.exons.intervals.ends.now b.args.i 0)).start
     → get_or b.args.sums.now b.args.i 0 + (b.args.p - from) < top
 read_low b from e = rw (on b read_bases from e) (on b bases_low from e)
 

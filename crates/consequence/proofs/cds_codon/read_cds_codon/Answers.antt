@@ -24,7 +24,7 @@ use Rattle.codon.specs.declared.Codon.{Codon}
 -- the answer from the codon
 abbrev called : Start → List ℕ → Oriented → ℕ → VariantLocation → ℕ → Bool → Option Codon → Called
 called b table t p place i mark c =
-    coding_called table t p (coding_byte b.args.strand b.args.alt_base) place i b.args.offset b.args.number b.args.position mark c
+    coding_called table t p (coding_byte b.args.segments.now.strand b.args.alt_base) place i b.args.offset b.args.number b.args.position mark c
 
 pad_of : (b : Start) (t : Oriented) → b.args.scalars ≡ index_scalars t → t.pad ≡ b.args.scalars.cds_start_pad
 pad_of b t h = sym (ap (λ (x : IndexScalars). x.cds_start_pad) h)

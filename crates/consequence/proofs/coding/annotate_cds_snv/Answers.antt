@@ -17,7 +17,7 @@ called b t p r = columns_called t p b.args.place b.args.i b.args.offset b.args.n
 
 pub read_cds_codon-read-requires : goal.read_cds_codon-read-requires
 read_cds_codon-read-requires c =
-    record { in_bounds = c.requires.in_bounds; segments = c.requires.segments; segment_count_value = c.requires.segment_count_value; selenocysteine_count_bound = c.requires.selenocysteine_count_bound }
+    record { segments = c.requires.segments; segment_count_value = c.requires.segment_count_value; selenocysteine_count_bound = c.requires.selenocysteine_count_bound }
 
 pub returns-in_default : goal.returns-in_default
 returns-in_default c =

@@ -6,17 +6,18 @@ use lib.ListN.{length}
 use lib.Dec.{ltb}
 use Rattle.transcript.specs.Transcript.{Transcript, lent}
 use Rattle.transcript.specs.Orient.{oriented}
+use Rattle.locate.specs.code.Ordered.{in_order}
 use Rattle.consequence.specs.Region.{region_of, with_mark}
 use Rattle.consequence.specs.code.AtPlace.{region_called, place_called}
 use Rattle.consequence.specs.declared.region.Region.{Region}
-use Rattle.consequence.specs.Window.{window_from, coding_byte}
+use Rattle.consequence.specs.Window.{window_of, coding_byte}
 use Rattle.consequence.specs.Answer.{no_codon, flank_result, intron_result, exon_result}
 use Rattle.consequence.specs.Call.{call_table, call_codon}
 use Rattle.consequence.proofs.OnPrepared.{on_prepared}
 use Rattle.consequence.proofs.Regions.{AtRegion}
 use Rattle.consequence.proofs.Preparing.{exon_count, index_fits, segments_at, exon_requires, exon_cdna, at_region, called, coding_cdna, coding_requires}
 use Rattle.consequence.proofs.place.annotate_place.Goals as goal
-use Rattle.consequence.proofs.place.annotate_place.Goals.{Start}
+use Rattle.consequence.proofs.place.annotate_place.Goals.{After-segments, Start}
 use Rattle.codon.specs.declared.Codon.{Codon}
 
 -- a law about the transcript and its index, at them
@@ -24,7 +25,7 @@ abbrev transcript : Start → Transcript
 transcript b = lent b.args.transcript.now.model b.args.transcript.now.exons.starts.now b.args.transcript.now.exons.ends.now b.args.transcript.now.segments.phases.now b.args.transcript.now.segments.exon_indexes.now b.args.transcript.now.segments.bases.starts.now b.args.transcript.now.segments.bases.ends.now b.args.transcript.now.selenocysteine.now
 
 abbrev codon : Start → ℕ → Option Codon
-codon b = call_codon (transcript b) (window_from b.args.first b.args.bytes.now)
+codon b = call_codon (transcript b) (window_of b.args.window.now)
 
 -- what the region says of the base, and the answer there
 at : (b : Start) (g : Region) → g ≡ region_of (ltb 0 (length b.args.transcript.now.segments.bases.starts.now)) b.args.place → AtRegion (oriented (transcript b)).exons b.args.p g
@@ -42,7 +43,8 @@ intron_result-requires c =
 pub compute_cdna_position_exonic-cdna-requires : goal.compute_cdna_position_exonic-cdna-requires
 compute_cdna_position_exonic-cdna-requires c =
     let h = on_prepared c.args.transcript.now c.args.scalars c.args.cumulative_exons.now c.args.cumulative_cds.now c.args.selenocysteine_codons.now c.requires.prepared exon_requires c.args.p _ (at (goal.at.compute_cdna_position_exonic-cdna-requires c).Start _ (sym c.in-Exon.is ∙ c.region_of-region.ensures)) in
-    record { ready = h.0; sums = h.1.0; held = h.1.1 }
+    let x = c.exons.ensures in
+    record { sums = rw (x.0, x.1) h.0; held = rw (x.0, x.1) h.1 }
 
 pub exon_result-requires : goal.exon_result-requires
 exon_result-requires c =
@@ -51,7 +53,8 @@ exon_result-requires c =
 pub annotate_cds_snv-requires : goal.annotate_cds_snv-requires
 annotate_cds_snv-requires c =
     let h = on_prepared c.args.transcript.now c.args.scalars c.args.cumulative_exons.now c.args.cumulative_cds.now c.args.selenocysteine_codons.now c.requires.prepared coding_requires c.args.ranges c.args.p c.args.place c.requires.located _ _ _ _ _ (sym c.in-Coding.is ∙ c.region_of-region.ensures) in
-    record { in_bounds = c.requires.letters.long; segments = h.0; segment_count_value = h.1.0; selenocysteine_count_bound = h.1.1.0; i_bound = h.1.1.1 }
+    let x = c.segments.ensures in
+    record { segments = rw (x.0, x.1) h.0; segment_count_value = rw x.1 h.1.0; selenocysteine_count_bound = h.1.1.0; i_bound = h.1.1.1 }
 
 pub returns-in-Distal : goal.returns-in-Distal
 returns-in-Distal c = answer (goal.at.returns-in-Distal c).Start Region.Distal (sym c.in-Distal.is ∙ c.region_of-region.ensures)
@@ -73,15 +76,21 @@ pub returns-in-Exon : goal.returns-in-Exon
 returns-in-Exon c =
     let n = c.compute_cdna_position_exonic-cdna in
     ap Ok
-    (c.exon_result.ensures (oriented (transcript (goal.at.returns-in-Exon c).Start)) c.args.p (on_prepared c.args.transcript.now c.args.scalars c.args.cumulative_exons.now c.args.cumulative_cds.now c.args.selenocysteine_codons.now c.requires.prepared exon_count) (on_prepared c.args.transcript.now c.args.scalars c.args.cumulative_exons.now c.args.cumulative_cds.now c.args.selenocysteine_codons.now c.requires.prepared exon_cdna c.args.p n.result.0 n.ensures)
+    (c.exon_result.ensures (oriented (transcript (goal.at.returns-in-Exon c).Start)) c.args.p (on_prepared c.args.transcript.now c.args.scalars c.args.cumulative_exons.now c.args.cumulative_cds.now c.args.selenocysteine_codons.now c.requires.prepared exon_count) (on_prepared c.args.transcript.now c.args.scalars c.args.cumulative_exons.now c.args.cumulative_cds.now c.args.selenocysteine_codons.now c.requires.prepared exon_cdna c.args.p n.result.0 (let x = c.exons.ensures in rw (x.0, x.1) at n.ensures))
     ∙ ap (λ (n : ℕ). exon_result (oriented (transcript (goal.at.returns-in-Exon c).Start)) c.args.p c.args.place c.in-Exon.index no_codon n)
     (c.with_mark-terms-in-Exon.ensures ∙ ap (with_mark c.in-Exon.mark) c.of-in-Exon.ensures))
     ∙ answer (goal.at.returns-in-Exon c).Start _ (sym c.in-Exon.is ∙ c.region_of-region.ensures)
+
+-- the transcript's segments are those that are read
+segments : (c : After-segments) → (oriented (transcript (goal.at.After-segments c).Start)).segments ≡ in_order c.segments.result
+segments c =
+    let x = c.segments.ensures in
+    rw (x.0, x.1) (on_prepared c.args.transcript.now c.args.scalars c.args.cumulative_exons.now c.args.cumulative_cds.now c.args.selenocysteine_codons.now c.requires.prepared segments_at)
 
 pub returns-in-Coding : goal.returns-in-Coding
 unfolding oriented
 returns-in-Coding c =
     let e = sym c.in-Coding.is ∙ c.region_of-region.ensures in
-    c.annotate_cds_snv.ensures (call_table (transcript (goal.at.returns-in-Coding c).Start)) (oriented (transcript (goal.at.returns-in-Coding c).Start)) c.args.p c.requires.letters (on_prepared c.args.transcript.now c.args.scalars c.args.cumulative_exons.now c.args.cumulative_cds.now c.args.selenocysteine_codons.now c.requires.prepared exon_count) c.requires.prepared.scalars_are refl (on_prepared c.args.transcript.now c.args.scalars c.args.cumulative_exons.now c.args.cumulative_cds.now c.args.selenocysteine_codons.now c.requires.prepared segments_at) c.requires.prepared.codons_are
-    (on_prepared c.args.transcript.now c.args.scalars c.args.cumulative_exons.now c.args.cumulative_cds.now c.args.selenocysteine_codons.now c.requires.prepared coding_cdna c.args.ranges c.args.p c.args.place c.requires.located _ _ _ _ _ e)
+    rw c.segments.ensures.0 at (c.annotate_cds_snv.ensures (call_table (transcript (goal.at.returns-in-Coding c).Start)) (oriented (transcript (goal.at.returns-in-Coding c).Start)) c.args.p c.requires.letters (on_prepared c.args.transcript.now c.args.scalars c.args.cumulative_exons.now c.args.cumulative_cds.now c.args.selenocysteine_codons.now c.requires.prepared exon_count) c.requires.prepared.scalars_are refl (segments (goal.at.returns-in-Coding c).After-segments) c.requires.prepared.codons_are
+    (on_prepared c.args.transcript.now c.args.scalars c.args.cumulative_exons.now c.args.cumulative_cds.now c.args.selenocysteine_codons.now c.requires.prepared coding_cdna c.args.ranges c.args.p c.args.place c.requires.located _ _ _ _ _ e))
     ∙ answer (goal.at.returns-in-Coding c).Start _ e

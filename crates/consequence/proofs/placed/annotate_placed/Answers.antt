@@ -6,7 +6,7 @@ use Rattle.transcript.specs.Orient.{oriented}
 use Rattle.locate.specs.declared.IndexScalars.{IndexScalars}
 use Rattle.consequence.specs.code.AtPlace.{spill_at, spilled}
 use Rattle.consequence.proofs.OnPrepared.{on_prepared}
-use Rattle.consequence.proofs.Preparing.{exons_at, exons_ready}
+use Rattle.consequence.proofs.Preparing.{exons_at}
 use Rattle.std.proofs.lemmas.Result.{err_from_is_err_and}
 use Rattle.consequence.proofs.placed.annotate_placed.Goals as goal
 use Rattle.consequence.proofs.placed.annotate_placed.Goals.{Start}
@@ -22,12 +22,12 @@ returns-in_err-result c =
     rw (p.1, p.2) (ap (spilled s) (sym c.in_err-result.was ∙ c.annotate_place.ensures))
 
 pub spill_at-spill-requires : goal.spill_at-spill-requires
-spill_at-spill-requires c = record { ready = on_prepared c.args.transcript.now c.args.scalars c.args.cumulative_exons.now c.args.cumulative_cds.now c.args.selenocysteine_codons.now c.requires.prepared exons_ready; p_le_top = c.requires.low }
+spill_at-spill-requires c = record { p_le_top = c.requires.low }
 
 pub returns : goal.returns
 returns c =
     let t = transcript (goal.at.returns c).Start in
     let s = c.spill_at-spill in
-    let e : s.result ≡ spill_at (oriented t) c.args.p = s.ensures (oriented t) (on_prepared c.args.transcript.now c.args.scalars c.args.cumulative_exons.now c.args.cumulative_cds.now c.args.selenocysteine_codons.now c.requires.prepared exons_at) (ap (λ (x : IndexScalars). x.has_frameshift_intron) c.requires.prepared.scalars_are) in
+    let e : s.result ≡ spill_at (oriented t) c.args.p = s.ensures (oriented t) (let x = c.exons.ensures in rw (x.0, x.1) (on_prepared c.args.transcript.now c.args.scalars c.args.cumulative_exons.now c.args.cumulative_cds.now c.args.selenocysteine_codons.now c.requires.prepared exons_at)) (ap (λ (x : IndexScalars). x.has_frameshift_intron) c.requires.prepared.scalars_are) in
     let f = sym c.in_ok-result.was ∙ c.annotate_place.ensures in
     ap Ok c.add_splice_spill.ensures ∙ (λ k. spilled (e k) (f k))

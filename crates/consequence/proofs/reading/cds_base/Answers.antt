@@ -4,6 +4,8 @@ use native.Mathlib.Omega.{arith}
 use lib.ListN.{length}
 use borrow.Author.Tests.{lt-ltb, le-ltb}
 use Rattle.transcript.specs.declared.Strand.{Strand}
+use Rattle.transcript.specs.code.Lent.{lent_exons}
+use Rattle.locate.specs.code.Search.{Ready}
 use Rattle.consequence.specs.Reading.{cds_base}
 use Rattle.consequence.specs.code.Segments.{Segments, Held}
 use Rattle.consequence.proofs.CodingBases.{reach, sum_le, in_segment, base_is}
@@ -12,19 +14,19 @@ use Rattle.consequence.proofs.reading.cds_base.Goals.{Start}
 
 -- a law about an offset and the segment that holds it, at them
 abbrev on : (b : Start) → {P : Strand → List ℕ → List ℕ → List ℕ → ℕ → ℕ → ℕ → Type 0}
-    → ((σ : Strand) (gs ge sums : List ℕ) (pad : ℕ) (s : Segments σ gs ge sums pad) (k i : ℕ) (h : Held sums (length gs) k i) → P σ gs ge sums pad k i)
-    → P b.args.strand b.args.intervals.starts.now b.args.intervals.ends.now b.args.sums.now b.args.pad b.args.k b.args.i
-on b f = f b.args.strand b.args.intervals.starts.now b.args.intervals.ends.now b.args.sums.now b.args.pad b.requires.segments b.args.k b.args.i b.requires.held
+    → ((σ : Strand) (gs ge sums : List ℕ) (pad : ℕ) (r : Ready σ gs ge) (s : Segments (lent_exons σ gs ge) sums pad) (k i : ℕ) (h : Held sums (length gs) k i) → P σ gs ge sums pad k i)
+    → P b.args.segments.now.strand b.args.segments.now.intervals.starts.now b.args.segments.now.intervals.ends.now b.args.sums.now b.args.pad b.args.k b.args.i
+on b f = f b.args.segments.now.strand b.args.segments.now.intervals.starts.now b.args.segments.now.intervals.ends.now b.args.sums.now b.args.pad b.args.segments.now.ready b.requires.segments b.args.k b.args.i b.requires.held
 
 pub returns-then-k-pad : goal.returns-then-k-pad
 unfolding cds_base
 returns-then-k-pad c = let a = c.args in λ t h s. rw (h, lt-ltb a.k a.pad (omega arith))
 
-pub bounds-intervals-i-2 : goal.bounds-intervals-i-2
-bounds-intervals-i-2 c = let e = c.requires.segments.ready.even in omega arith
+pub bounds-segments-i-2 : goal.bounds-segments-i-2
+bounds-segments-i-2 c = let e = c.args.segments.now.ready.even in omega arith
 
 pub bounds-sums-i : goal.bounds-sums-i
-bounds-sums-i c = let r = reach c.args.strand c.args.intervals.starts.now c.args.intervals.ends.now c.args.sums.now c.args.pad c.requires.segments in let h = c.requires.held.index in omega arith
+bounds-sums-i c = let r = reach c.args.segments.now.strand c.args.segments.now.intervals.starts.now c.args.segments.now.intervals.ends.now c.args.sums.now c.args.pad c.args.segments.now.ready c.requires.segments in let h = c.requires.held.index in omega arith
 
 pub overflow_sub-d : goal.overflow_sub-d
 overflow_sub-d c = on (goal.at.overflow_sub-d c).Start sum_le (omega arith)

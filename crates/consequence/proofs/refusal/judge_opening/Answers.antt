@@ -2,13 +2,13 @@ use Rattle.std.proofs.Common.{sym, ◌∙◌, ap, arith}
 use Rattle.common.specs.declared.refusal.Refusal.{Refusal}
 use Rattle.common.specs.Refusal.{outcome}
 use Rattle.common.proofs.Outcome.{refused_by}
-use Rattle.consequence.specs.Window.{Window}
+use Rattle.consequence.specs.Window.{Window, window_of}
 use Rattle.consequence.proofs.Refusals.{away_is, is_15, is_14, is_16, by_window}
 use Rattle.consequence.proofs.refusal.judge_opening.Goals as goal
 use Rattle.consequence.proofs.refusal.judge_opening.Goals.{Start}
 
 abbrev window : Start → Window
-window b = record { chromosome = b.args.window_chromosome; first = b.args.first; bytes = b.args.bytes.now }
+window b = window_of b.args.window.now
 
 pub returns-then-call-ge-QUERY_LIMIT : goal.returns-then-call-ge-QUERY_LIMIT
 returns-then-call-ge-QUERY_LIMIT c =

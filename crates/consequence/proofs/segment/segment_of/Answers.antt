@@ -1,19 +1,12 @@
-use Prim.Native.Nat.{◌+◌}
-use native.Mathlib.Omega.{arith}
-use mathlib.Core.Path.{◌≡◌}
+use Rattle.std.proofs.Common.{ℕ, leb, rules}
+use Rattle.std.proofs.lemmas.List.Sorted.{IsPartitionPoint-from_clause}
+use Rattle.consequence.proofs.SegmentSearch.{parted, held_at}
 use Rattle.consequence.proofs.segment.segment_of.Goals as goal
 
-pub loop-lo-init : goal.loop-lo-init
-loop-lo-init c = (omega arith, omega arith, omega arith, omega arith)
-
-pub loop-lo-preserved-then-sums-mid : goal.loop-lo-preserved-then-sums-mid
-loop-lo-preserved-then-sums-mid c = (omega arith, omega arith, omega arith, omega arith)
-
-pub loop-lo-preserved : goal.loop-lo-preserved
-loop-lo-preserved c = (omega arith, omega arith, omega arith, omega arith)
-
 pub returns : goal.returns
-returns c =
-    let l = c.loop-lo in
-    let e : l.hi ≡ l.lo + 1 = omega arith in
-    record { index = omega arith; from = l.invariant.2; to = rw e at l.invariant.3 }
+returns c = λ up.
+    let a = c.args in
+    let h = c.requires in
+    let e = c.partition_point.ensures in
+    held_at a.sums.now a.count a.k h.0 h.2 c.partition_point.result e.bound h.3
+    (IsPartitionPoint-from_clause (λ (s : ℕ). leb s a.k) _ _ e.partitioned (parted a.sums.now a.count a.k h.0 h.2 up) (λ x r q z. search rules))

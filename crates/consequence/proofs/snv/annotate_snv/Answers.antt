@@ -1,4 +1,4 @@
-use Rattle.std.proofs.Common.{List, refl, sym, ◌∙◌, ap}
+use Rattle.std.proofs.Common.{List, sym, ◌∙◌, ap}
 use Rattle.std.proofs.lemmas.Result.{err_from_is_err_and}
 use Rattle.common.specs.Lists.{any}
 use Rattle.footprint.specs.Ranges.{source_ranges}
@@ -6,35 +6,35 @@ use Rattle.transcript.specs.Transcript.{transcript_of}
 use Rattle.transcript.specs.Orient.{Interval}
 use Rattle.transcript.specs.Bases.{gaps}
 use Rattle.transcript.proofs.OnParts.{on}
-use Rattle.transcript.proofs.Asking.{admitted_is}
+use Rattle.transcript.proofs.Lending.{is_admitted, is_lent, is_turned_away}
 use Rattle.footprint.specs.ShortIntron.{is_frameshift_gap}
 use Rattle.locate.proofs.LentTranscript.{exons_are}
 use Rattle.locate.proofs.LentIndex.{exons_summed, cds_summed}
-use Rattle.consequence.specs.Window.{Window}
+use Rattle.consequence.specs.Window.{Window, window_of}
 use Rattle.consequence.proofs.Calling.{not_admitted}
 use Rattle.consequence.proofs.snv.annotate_snv.Goals as goal
 use Rattle.consequence.proofs.snv.annotate_snv.Goals.{Start}
 
 abbrev window : Start → Window
-window b = record { chromosome = b.args.window_chromosome; first = b.args.window_first; bytes = b.args.window.now }
+window b = window_of b.args.window.now
 
-pub returns-in_err-admit : goal.returns-in_err-admit
-returns-in_err-admit c =
+pub returns-in_err-admitted : goal.returns-in_err-admitted
+returns-in_err-admitted c =
+    let x = c.args.transcript.now in
     let p = err_from_is_err_and c.from_residual.result c.from_residual.ensures.1 in
-    rw (p.1, p.2) (not_admitted source_ranges (transcript_of c.args.transcript.now) (window (goal.at.returns-in_err-admit c).Start) c.args.call c.in_err-admit.field-0.0 (sym c.admit.ensures ∙ c.in_err-admit.was))
-
-pub sum_up-requires : goal.sum_up-requires
-sum_up-requires c = record { zeros = (refl, refl); admitted = admitted_is (transcript_of c.args.transcript.now) c.admit.result c.admit.ensures c.in_ok-admit.field-0 c.in_ok-admit.was }
+    rw (p.1, p.2) (not_admitted source_ranges (transcript_of x) (window (goal.at.returns-in_err-admitted c).Start) c.args.call c.in_err-admitted.field-0.0 (is_turned_away x c.of.result c.of.ensures _ c.in_err-admitted.was))
 
 pub annotate_summed-requires : goal.annotate_summed-requires
 annotate_summed-requires c =
-    let a = admitted_is (transcript_of c.args.transcript.now) c.admit.result c.admit.ensures c.in_ok-admit.field-0 c.in_ok-admit.was in
-    let s = c.sum_up in record {
+    let x = c.args.transcript.now in
+    let a = is_admitted x c.of.result c.of.ensures c.in_ok-admitted.admitted c.in_ok-admitted.was in
+    let s = (rw (is_lent x c.of.result c.of.ensures c.in_ok-admitted.admitted c.in_ok-admitted.was) at c.sum_up.ensures.sums) in
+    let n = c.sum_up.new in record {
       summed = record {
         admitted = a;
-        exons_are = on c.args.transcript.now exons_summed a s.new.cumulative_exons s.ensures.sums.0;
-        segments_are = on c.args.transcript.now cds_summed a s.new.cumulative_cds s.ensures.sums.1;
-        short_is = c.has_frameshift_intron-short.ensures ∙ ap (λ (xs : List Interval). any is_frameshift_gap (gaps xs)) (sym (on c.args.transcript.now exons_are a));
+        exons_are = on x exons_summed a n.cumulative_exons s.0;
+        segments_are = on x cds_summed a n.cumulative_cds s.1;
+        short_is = c.has_frameshift_intron-short.ensures ∙ ap (λ (xs : List Interval). any is_frameshift_gap (gaps xs)) (sym (on x exons_are a));
       };
       letters = c.call_letters.ensures;
     }
