@@ -5,6 +5,7 @@ use mathlib.Core.Path.{refl}
 use mathlib.Core.Bool.{Bool, true, false, cond}
 use lib.ListN.{length}
 use lib.Dec.{ltb}
+use Rattle.std.specs.Result.{is_ok}
 use Rattle.common.specs.Refuse.{or_else}
 use Rattle.transcript.specs.claims.Numbers.{NumberGiven}
 use Rattle.std.specs.Prelude.{Result, Ok, Err}
@@ -12,17 +13,17 @@ use Rattle.common.specs.Refusal.{refusal}
 use Rattle.deck.specs.declared.DeckRefusal.{DeckRefusal}
 use Rattle.deck.specs.Refused.{refused_at}
 use Rattle.deck.specs.Deck.{read_deck, deck_transcripts}
-use Rattle.deck.specs.Numbers.{deck_number, is_accepted}
+use Rattle.deck.specs.Numbers.{deck_number}
 use Rattle.deck.specs.claims.Numbers.{deck_numbers}
 use Rattle.deck.proofs.NumbersGiven.{deck_given}
 use Rattle.contents.specs.Contents.{content_by}
 use Rattle.contents.specs.claims.Numbers.{ContentGiven, PlaceGiven}
 
 abbrev Given : Result Unit DeckRefusal → ℕ → Result ℕ DeckRefusal → Type 0
-Given a refusal c = NumberGiven deck_numbers refusal (deck_number (content_by a c)) (is_accepted (content_by a c))
+Given a refusal c = NumberGiven deck_numbers refusal (deck_number (content_by a c)) (is_ok (content_by a c))
 
 abbrev OfDeck : Result Unit DeckRefusal → Type 0
-OfDeck a = NumberGiven deck_numbers (deck_number a) (deck_number a) (is_accepted a)
+OfDeck a = NumberGiven deck_numbers (deck_number a) (deck_number a) (is_ok a)
 
 of_content : (a : Result Unit DeckRefusal) → OfDeck a → (n : ℕ) → Given a (deck_number a) (Ok n)
 of_content (Ok x) g n = g

@@ -20,12 +20,12 @@ use Rattle.deck.specs.declared.DeckRefusal.{DeckRefusal}
 use Rattle.deck.specs.Records.{record_count, next_of}
 use Rattle.deck.specs.Walk.{Parts, Walk, walked, stopped, walk_deck, first_unreached, walked_as}
 use Rattle.deck.specs.Deck.{transcript_of, admitted_then, admit_all, bad_length, first_bad, structure_of, parts_of, admitted, read_deck}
-use Rattle.deck.specs.Numbers.{deck_number, deck_record, deck_values, is_accepted}
+use Rattle.deck.specs.Numbers.{deck_number, deck_record, deck_values}
 use Rattle.deck.specs.claims.Numbers.{deck_numbers, DeckGiven, DeckValued}
 
 -- the number of an answer is one of a deck's, 0 exactly where the deck is accepted
 abbrev Given : Result Unit DeckRefusal → Type 0
-Given a = NumberGiven deck_numbers (deck_number a) (deck_number a) (is_accepted a)
+Given a = NumberGiven deck_numbers (deck_number a) (deck_number a) (is_ok a)
 
 -- a refusal has its number, but for 0
 has_number : ℕ → Bool
@@ -78,7 +78,7 @@ pub deck_given : DeckGiven
 unfolding read_deck
 deck_given d = structure_given d
 
-answer_valued : (a : Result Unit DeckRefusal) → deck_values a ≡ cond (is_accepted a) [] (deck_record a ∷ [])
+answer_valued : (a : Result Unit DeckRefusal) → deck_values a ≡ cond (is_ok a) [] (deck_record a ∷ [])
 answer_valued (Ok x) = refl
 answer_valued (Err e) = refl
 

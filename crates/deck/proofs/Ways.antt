@@ -4,6 +4,7 @@ use Prim.Native.Nat.{ℕ, suc}
 use mathlib.Core.Path.{◌≡◌, refl, ◌∙◌}
 use mathlib.Core.Bool.{Bool, true, false, cond}
 use mathlib.Core.List.{List, [], ◌∷◌}
+use native.Mathlib.Omega.{arith}
 use lib.Dec.{eqb}
 use Rattle.deck.specs.Records.{next_of, half}
 use Rattle.deck.specs.code.Trail.{Way, ended, bad, walk_way}
@@ -22,12 +23,13 @@ go_on (ended r) go = go r
 go_on (bad i) go = bad i
 
 -- a chain, one link at a time
+prepend_way : (to : ℕ) (c : Chain) → chain_way (prepend to c) ≡ chain_way c
+prepend_way to (chained is r) = refl
+prepend_way to (broken i) = refl
+
 chain_cases : (s t : Bool) (r : List ℕ) (from to : ℕ) (c : Chain)
     → chain_way (cond s (chained [] r) (cond t (broken from) (prepend to c))) ≡ cond s (ended r) (cond t (bad from) (chain_way c))
-chain_cases true t r from to c = refl
-chain_cases false true r from to c = refl
-chain_cases false false r from to (chained is q) = refl
-chain_cases false false r from to (broken i) = refl
+chain_cases s t r from to c = grind (arith, prepend_way)
 
 pub chain_way_lem : (f : ℕ) (d : List ℕ) (kind from to : ℕ) (r : List ℕ)
     → chain_way (chain_from (suc f) d kind from to r) ≡ cond (eqb to 0) (ended r) (cond (bad_link d kind to r) (bad from) (chain_way (chain_from f d kind to (next_of d to) (to ∷ r))))

@@ -1,5 +1,5 @@
 -- What a deck's answer stands for: its refusal number, 0 where the deck is accepted, and the record named with it.
-use Rattle.std.specs.Prelude.{ℕ, Bool, true, false, List, [], ◌∷◌, Result, Ok, Err}
+use Rattle.std.specs.Prelude.{ℕ, List, [], ◌∷◌, Result, Ok, Err}
 use Rattle.common.specs.Refusal.{number}
 use Rattle.deck.specs.declared.DeckRefusal.{DeckRefusal}
 
@@ -16,7 +16,3 @@ deck_record (Err e) = e.record
 abbrev pub deck_values : {A : Type 0} → Result A DeckRefusal → List ℕ
 deck_values (Ok x) = []
 deck_values (Err e) = e.record ∷ []
-
-abbrev pub is_accepted : {A : Type 0} → Result A DeckRefusal → Bool
-is_accepted (Ok x) = true
-is_accepted (Err e) = false

@@ -5,17 +5,16 @@ ghost use Rattle.deck.specs.code.Table.{number_of, table_of, empty_table};
 
 use crate::Table;
 use crate::kind::Kind;
-use crate::record::{half_of, kind_of, mark_of, word_of};
+use crate::record::DeckRecord;
 
 // The chromosome of a transcript, the exon index of a segment.
-fn number_of(d: &[u8], i: usize) -> u16
-    requires { 16 * i + 16 ≤ length d.now }
-    ensures { result ≡ number_of d.now i }
+fn number_of(r: DeckRecord) -> u16
+    ensures { result ≡ number_of r.entry.deck.now r.entry.i }
 {
-    if kind_of(d, i) == u8::from(Kind::Transcript) {
-        half_of(d, i, 8)
+    if r.kind() == u8::from(Kind::Transcript) {
+        r.u16_at(8)
     } else {
-        half_of(d, i, 12)
+        r.u16_at(12)
     }
 }
 
@@ -40,14 +39,17 @@ impl Table {
         requires empty { self.old ≡ empty_table }
         ensures { self.new ≡ table_of d.now order.now }
     {
-        for (k, record) in order.iter().enumerate() {
-            let i = *record as usize;
-            self.kinds[k] = kind_of(d, i);
-            self.marks[k] = mark_of(d, i);
-            self.ids[k] = word_of(d, i, 4);
-            self.numbers[k] = number_of(d, i);
-            self.starts[k] = u64::from(word_of(d, i, 4));
-            self.ends[k] = u64::from(word_of(d, i, 8));
+        for (k, i) in order.iter().enumerate() {
+            let record = DeckRecord {
+                deck: d,
+                i: *i as usize,
+            };
+            self.kinds[k] = record.kind();
+            self.marks[k] = record.mark();
+            self.ids[k] = record.u32_at(4);
+            self.numbers[k] = number_of(record);
+            self.starts[k] = u64::from(record.u32_at(4));
+            self.ends[k] = u64::from(record.u32_at(8));
         }
     }
 }

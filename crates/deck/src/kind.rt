@@ -25,6 +25,7 @@ impl From<Kind> for u8 {
 #[derive(Clone, Copy)]
 pub(crate) struct UnknownKind;
 
+// By hand: no derive writes TryFrom.
 impl TryFrom<u8> for Kind {
     type Error = UnknownKind;
 

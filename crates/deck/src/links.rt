@@ -4,9 +4,10 @@ ghost use Rattle.deck.specs.Records.{record_count, half};
 ghost use Rattle.deck.specs.code.Links.{link_or, exon_link, segment_link, next_link, bounds_after};
 
 use crate::kind::Kind;
-use crate::record::half_of;
+use crate::record::DeckRecord;
 
 // A link: the kind that it must lead to, the record that holds it, and the record that it leads to, 0 for none.
+// Nought is none, as in the file: no link leads to the head.
 #[derive(Clone, Copy)]
 pub(crate) struct Link {
     pub(crate) kind: Kind,
@@ -19,7 +20,7 @@ pub(crate) fn link_of(d: &[u8], i: usize, k: usize) -> usize
     requires { (i < record_count d.now) × (k ≤ 14) }
     ensures { result ≡ half d.now i k }
 {
-    half_of(d, i, k) as usize
+    (DeckRecord { deck: d, i }).u16_at(k) as usize
 }
 
 impl Link {

@@ -9,10 +9,11 @@ ghost use Rattle.deck.specs.code.Trail.{first_trail, with_record, is_bad, is_unr
 use crate::DeckRefusal;
 use crate::kind::Kind;
 use crate::links::{Link, bounds_after, exon_link, link_of, next_link};
-use crate::record::{RECORD_SIZE, kind_of};
+use crate::record::{DeckRecord, RECORD_SIZE};
 use common::refusal::Refusal;
 
 // The records reached so far: a mark for each, and besides the head their order and how many they are.
+// Fixed memory: a count beside the array, no Vec.
 #[derive(Drop)]
 pub(crate) struct Trail {
     marks: [bool; 4096],
@@ -51,9 +52,14 @@ impl Trail {
         requires { length d.now ≤ 65536 }
         ensures { result ≡ is_bad d.now link self.now }
     {
-        d.len() / RECORD_SIZE <= link.to
-            || kind_of(d, link.to) != u8::from(link.kind)
-            || self.marks[link.to]
+        if d.len() / RECORD_SIZE <= link.to {
+            return true;
+        }
+        let target = DeckRecord {
+            deck: d,
+            i: link.to,
+        };
+        target.kind() != u8::from(link.kind) || self.marks[link.to]
     }
 
     // The record that a link leads to is reached, unless the link is bad.

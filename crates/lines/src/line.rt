@@ -29,6 +29,7 @@ fn push_refusal(out: &mut [u8], a: u64, b: u64, c: u64) -> usize
 
 // The line of a refusal and its length, or `LineLength` where it does not fit. No such line has over 63 bytes; where it might not fit,
 // it is measured on an empty buffer first.
+// Apart from write_answer: one function of both would take the text as a closure, with its bound.
 pub fn write_refusal(out: &mut [u8], a: u64, b: u64, c: u64) -> Result<usize, Refusal>
     ensures { let line = refusal_line a b c in
         (result ≡ write_answer out.old line) × (out.new ≡ written_to out.old line) }

@@ -8,6 +8,7 @@ use lib.ListN.{length, length-append}
 use lib.Dec.{eqb, leb}
 use borrow.Author.Tests.{ne_eqb, eqb-false, leb-true, leb-false, lt-ltb, le-ltb}
 use Rattle.std.specs.Prelude.{Option, Some, None, Result, Ok, Err}
+use Rattle.std.specs.Result.{is_ok}
 use Rattle.common.specs.declared.refusal.Refusal.{Refusal}
 use Rattle.common.specs.declared.refusal.Refusal.TheVariants.{LineLength}
 use Rattle.common.specs.Refusal.{outcome_number}
@@ -17,7 +18,6 @@ use Rattle.transcript.specs.claims.Numbers.{NumberGiven}
 use Rattle.lines.specs.claims.Numbers.{written_numbers}
 use Rattle.listing.specs.declared.Cursor.{Cursor}
 use Rattle.listing.specs.declared.Piece.{Piece}
-use Rattle.listing.specs.Numbers.{is_piece}
 use Rattle.listing.specs.Pieces.{Step, steps, start, pack, packed, piece_by, piece_of}
 use Rattle.listing.specs.claims.Numbers.{Each, line_too_long, PieceGiven}
 use Rattle.listing.proofs.Packing.{Split, pack_split, packed_fits}
@@ -66,9 +66,9 @@ module _ (deck window calls : List ℕ) (c : Cursor) (buffer : List ℕ) {r : Re
 
 module _ (room : ℕ) where
   abbrev Given : List Step → Type 0
-  Given ss = NumberGiven written_numbers (refuse (line_too_long room ss) 28 0) (outcome_number (piece_of (pack room ss))) (is_piece (piece_of (pack room ss)))
+  Given ss = NumberGiven written_numbers (refuse (line_too_long room ss) 28 0) (outcome_number (piece_of (pack room ss))) (is_ok (piece_of (pack room ss)))
 
-  some_lines : (n : ℕ) (q : Option Cursor) → 0 < n → NumberGiven written_numbers 0 (outcome_number (piece_by n q)) (is_piece (piece_by n q))
+  some_lines : (n : ℕ) (q : Option Cursor) → 0 < n → NumberGiven written_numbers 0 (outcome_number (piece_by n q)) (is_ok (piece_by n q))
   some_lines n None h = record { refusal_is = refl; among = refl; zero_answered = refl }
   some_lines n (Some c) h = rw (ne_eqb n 0 (λ e. omega arith)) (record { refusal_is = refl; among = refl; zero_answered = refl })
 

@@ -23,7 +23,7 @@ use Rattle.std.specs.Prelude.{Result, Ok, Err}
 use Rattle.common.specs.Refusal.{number}
 use Rattle.deck.specs.declared.DeckRefusal.{DeckRefusal}
 use Rattle.deck.specs.Deck.{read_deck, deck_transcripts}
-use Rattle.deck.specs.Numbers.{deck_number, deck_record, is_accepted}
+use Rattle.deck.specs.Numbers.{deck_number, deck_record}
 use Rattle.deck.specs.claims.Numbers.{deck_numbers}
 use Rattle.deck.proofs.NumbersGiven.{deck_given}
 use Rattle.lines.specs.Line.{called_line}
@@ -42,12 +42,12 @@ parsed_given l = on_test (is_call (fields_of l)) (λ e. rw e (refl, refl)) (λ e
 
 -- a deck's answer
 abbrev Judged : Result Unit DeckRefusal → Type 0
-Judged a = NumberGiven deck_numbers (deck_number a) (deck_number a) (is_accepted a)
+Judged a = NumberGiven deck_numbers (deck_number a) (deck_number a) (is_ok a)
 
 abbrev OpensBy : Result Unit DeckRefusal → List ℕ → List ℕ → Type 0
 OpensBy a window calls =
     NumberGiven opening_numbers (or_else (deck_number a) (refuse (bad_window_file window || bad_call_file calls) 27 0))
-    (deck_number (opening_by a window calls)) (is_accepted (opening_by a window calls))
+    (deck_number (opening_by a window calls)) (is_ok (opening_by a window calls))
 
 opening_by_lem : (a : Result Unit DeckRefusal) → Judged a → (window calls : List ℕ) → OpensBy a window calls
 opening_by_lem (Err e) g window calls = record {
@@ -64,7 +64,7 @@ unfolding opening
 opening_given deck window calls = opening_by_lem (read_deck deck) (deck_given deck) window calls
 
 opening_valued_lem : (a : Result Unit DeckRefusal) (window calls : List ℕ) →
-    opening_values (opening_by a window calls) ≡ cond (is_accepted (opening_by a window calls)) [] (deck_record a ∷ [])
+    opening_values (opening_by a window calls) ≡ cond (is_ok (opening_by a window calls)) [] (deck_record a ∷ [])
 opening_valued_lem (Err e) window calls = refl
 opening_valued_lem (Ok x) window calls = on_test (bad_window_file window || bad_call_file calls) (λ e. rw e) (λ e. rw e)
 

@@ -1,6 +1,6 @@
 -- What each case of the lister's answers stands for: its refusal number, 0 for an answer, and its values. An opening's number is
 -- deck's `deck_number`, a piece's `outcome_number`.
-use Rattle.std.specs.Prelude.{ℕ, Bool, true, false, List, [], ◌∷◌, Option, Some, None, Result, Ok, Err}
+use Rattle.std.specs.Prelude.{ℕ, List, [], ◌∷◌, Option, Some, None, Result, Ok, Err}
 use Rattle.common.specs.declared.refusal.Refusal.{Refusal}
 use Rattle.consequence.specs.declared.Call.{Call}
 use Rattle.deck.specs.declared.DeckRefusal.{DeckRefusal}
@@ -29,7 +29,3 @@ next_values None = []
 abbrev pub piece_values : Result Piece Refusal → List ℕ
 piece_values (Ok p) = p.length ∷ next_values p.next
 piece_values (Err r) = []
-
-abbrev pub is_piece : Result Piece Refusal → Bool
-is_piece (Ok p) = true
-is_piece (Err r) = false

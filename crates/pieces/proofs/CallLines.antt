@@ -8,7 +8,6 @@ use native.Mathlib.Numerals.{add-one}
 use lib.ListN.{length, take, drop, length-drop, length-take, drop_of_length-le}
 use lib.Seq.{drop-drop, length-take-le}
 use borrow.Rule.Slice.PartMut.{mid_of, put_mid}
-use Rattle.common.specs.Little.{at2, at8}
 use Rattle.transcript.specs.Transcript.{Transcript}
 use Rattle.consequence.specs.Window.{Window}
 use Rattle.std.specs.Prelude.{Option, Some, None}
@@ -16,7 +15,6 @@ use Rattle.listing.specs.declared.Cursor.{Cursor}
 use Rattle.consequence.specs.declared.Call.{Call}
 use Rattle.listing.specs.declared.Piece.{Piece}
 use Rattle.listing.specs.Calls.{lines_of, parse_call}
-use Rattle.listing.specs.WindowFile.{window_of}
 use Rattle.listing.specs.Entries.{call_entries}
 use Rattle.listing.specs.Pieces.{Step, call_steps, steps_from, line_number, steps_at, Packed, pack, piece_to}
 use Rattle.listing.specs.code.Lengths.{line_length}
@@ -24,11 +22,6 @@ use Rattle.listing.proofs.Lines.{lines_step, line_inside}
 use Rattle.listing.proofs.Newlines.{newlines_few}
 use Rattle.pieces.specs.code.Filling.{filled_as}
 use Rattle.pieces.proofs.Filling.{Filling, filling_more, filling_stop}
-
-pub window_is : (f : List ℕ) {c first : ℕ} {bytes : List ℕ} → c ≡ at2 f 0 → first ≡ at8 f 2 → bytes ≡ drop 10 f
-    → record { chromosome = c; first = first; bytes = bytes } ≡ window_of f
-unfolding window_of
-window_is f a b d = rw (a, b, d)
 
 -- lines before a byte, and bytes from it on, are not more than the bytes
 pub few_lines : (calls : List ℕ) (at : ℕ) → line_number calls at + (length calls - at) ≤ length calls + 1

@@ -1,13 +1,13 @@
 // A call on a transcript of an indexed table.
 ghost use Rattle.std.specs.Prelude.{◌≡◌, ◌<◌, get_or, drop};
-ghost use Rattle.codon.specs.code.Letters.{BothLetters};
-ghost use Rattle.consequence.specs.Window.{window_was_given};
+ghost use Rattle.consequence.specs.Window.{window_of};
 ghost use Rattle.listing.specs.Entries.{listed_call};
 ghost use Rattle.consequence.specs.code.Prepared.{Summed};
 ghost use Rattle.deck.specs.code.Table.{InOrder, transcript_in};
 ghost use Rattle.pieces.specs.code.TableIndex.{cds_row};
 
-use consequence::{Call, Called, annotate_summed, call_letters};
+use codon::AllLetters;
+use consequence::{Call, Called, Window, annotate_summed, call_letters};
 use deck::Table;
 use deck::rows::Rows;
 use footprint::source_ranges;
@@ -34,10 +34,8 @@ fn sums_from(sums: &[u32; 4096], row: usize) -> &[u32]
 
 // The answer to a call on the admitted transcript at row k.
 pub(crate) fn call_indexed(
-    both: &[u8; 1536],
-    window_chromosome: u16,
-    window_first: u64,
-    window: &[u8],
+    both: &AllLetters,
+    window: &Window,
     call: Call,
     table: &Table,
     sums: &[u32; 4096],
@@ -48,17 +46,14 @@ pub(crate) fn call_indexed(
     requires in_order { InOrder k rows }
     requires summed { let t = transcript_in table.now k rows in
         Summed t (drop k sums.now) (drop (cds_row k rows) sums.now) short }
-    requires both_letters { BothLetters both.now }
     ensures { let t = transcript_in table.now k rows in
-        let w = window_was_given window_chromosome window_first window in
+        let w = window_of window.now in
         result ≡ listed_call t w call }
 {
     let transcript = table.transcript(k, rows);
     annotate_summed(
         source_ranges(),
         call_letters(both, transcript.model.chromosome),
-        window_chromosome,
-        window_first,
         window,
         call,
         &transcript,

@@ -1,77 +1,61 @@
 // The lines of one call, put into a lent buffer.
 ghost use Rattle.std.specs.Prelude.{◌≡◌, ◌<◌, length, get_or, drop};
-ghost use Rattle.codon.specs.code.Letters.{BothLetters};
-ghost use Rattle.consequence.specs.Window.{window_was_given};
+ghost use Rattle.consequence.specs.Window.{window_of};
 ghost use Rattle.deck.specs.code.Table.{transcript_at, table_transcripts};
 ghost use Rattle.lines.specs.Line.{write_answer, written_to};
 ghost use Rattle.listing.specs.Entries.{entry_line, call_entry, call_entries};
 ghost use Rattle.listing.specs.Pieces.{call_steps, pack, piece_to};
-ghost use Rattle.pieces.specs.code.TableIndex.{AllAdmitted, table_index};
 ghost use Rattle.pieces.specs.code.Filling.{filled_as};
 
-use crate::TableIndex;
 use crate::call::call_indexed;
+use crate::opened::OpenedDeck;
+use codon::AllLetters;
 use common::refusal::Refusal;
-use consequence::Call;
-use deck::Table;
+use consequence::{Call, Window};
 use lines::write_called;
 use listing::{Cursor, Piece};
 
 // The line of a call for one of the transcripts.
 fn write_entry(
-    both: &[u8; 1536],
-    window_chromosome: u16,
-    window_first: u64,
-    window: &[u8],
-    table: &Table,
-    index: &TableIndex,
+    both: &AllLetters,
+    window: &Window,
+    deck: OpenedDeck,
     call: Call,
     number: u64,
     entry: usize,
     out: &mut [u8],
 ) -> Result<usize, Refusal>
-    requires admitted { AllAdmitted table.now }
-    requires indexed { index.now ≡ table_index table.now }
-    requires entry_within { entry < index.now.count }
-    requires letters { BothLetters both.now }
-    ensures { let w = window_was_given window_chromosome window_first window in
-        let l = entry_line (call_entry w number call (transcript_at table.now (get_or index.now.rows entry 0))) in
+    requires { entry < deck.index.now.count }
+    ensures { let w = window_of window.now in
+        let l = entry_line (call_entry w number call (transcript_at deck.entry.table.now (get_or deck.entry.index.now.rows entry 0))) in
         (result ≡ write_answer out.old l) × (out.new ≡ written_to out.old l) }
 {
-    let row = usize::from(index.rows[entry]);
+    let row = usize::from(deck.index.rows[entry]);
     let called = call_indexed(
         both,
-        window_chromosome,
-        window_first,
         window,
         call,
-        table,
-        &index.sums,
+        deck.table,
+        &deck.index.sums,
         row,
-        index.rows_in(entry),
-        index.short[entry],
+        deck.index.rows_in(entry),
+        deck.index.short[entry],
     );
-    write_called(out, number, table.ids[row], called)
+    write_called(out, number, deck.table.ids[row], called)
 }
 
 // The lines of a call for the transcripts from the cursor on. No `for`: the loop is left with the cursor of the line that does not fit.
 pub(crate) fn fill_called(
-    both: &[u8; 1536],
-    window_chromosome: u16,
-    window_first: u64,
-    window: &[u8],
-    table: &Table,
-    index: &TableIndex,
+    both: &AllLetters,
+    window: &Window,
+    deck: OpenedDeck,
     call: Call,
     number: u64,
     cursor: Cursor,
     out: &mut [u8],
 ) -> Piece
-    requires admitted { AllAdmitted table.now }
-    requires indexed { index.now ≡ table_index table.now }
-    requires letters { BothLetters both.now }
-    ensures { let ts = table_transcripts table.now in
-        let w = window_was_given window_chromosome window_first window in
+    ensures { let ts = table_transcripts deck.entry.table.now in
+        let w = window_of window.now in
         let es = drop cursor.entry (call_entries ts w number (Some call)) in
         let p = pack (length out.old) (call_steps cursor.at cursor.entry es) in
         (result ≡ filled_as p) × (out.new ≡ piece_to out.old p) }
@@ -79,19 +63,8 @@ pub(crate) fn fill_called(
     let at = cursor.at;
     let mut entry = cursor.entry;
     let mut filled = 0;
-    while entry < index.count {
-        let written = write_entry(
-            both,
-            window_chromosome,
-            window_first,
-            window,
-            table,
-            index,
-            call,
-            number,
-            entry,
-            &mut out[filled..],
-        );
+    while entry < deck.index.count {
+        let written = write_entry(both, window, deck, call, number, entry, &mut out[filled..]);
         let Ok(length) = written else {
             return Piece {
                 length: filled,

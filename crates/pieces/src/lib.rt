@@ -9,6 +9,7 @@ mod index;
 mod line;
 mod list;
 mod open;
+mod opened;
 mod parsed;
 mod piece;
 mod row;

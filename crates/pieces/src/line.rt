@@ -1,16 +1,16 @@
 // The lines of the calls from a cursor on, put into a lent buffer.
 ghost use Rattle.std.specs.Prelude.{◌≡◌, ◌≤◌, length, drop};
 ghost use Rattle.deck.specs.code.Table.{table_transcripts};
-ghost use Rattle.listing.specs.WindowFile.{window_of};
+ghost use Rattle.consequence.specs.Window.{window_of};
+ghost use Rattle.listing.specs.WindowFile.{window_of as file_window};
 ghost use Rattle.listing.specs.Pieces.{steps_at, pack, piece_to};
-ghost use Rattle.pieces.specs.code.TableIndex.{AllAdmitted, table_index};
 ghost use Rattle.pieces.specs.code.Filling.{filled_as};
 
-use crate::TableIndex;
+use crate::opened::OpenedDeck;
 use crate::parsed::fill_parsed;
 use codon::altered_letters;
 use common::little::{u16_at, u64_at};
-use deck::Table;
+use consequence::Window;
 use listing::{Cursor, Piece, line_end, line_number, parse_call};
 
 // The bases of a window file.
@@ -23,26 +23,34 @@ fn bases_of(window: &[u8]) -> &[u8]
     &window[10..]
 }
 
+// The window of a window file.
+#[tactic(auto, unfolding(listing::specs::WindowFile::window_of))]
+fn window_in(window: &[u8]) -> Window
+    ensures { window_of result ≡ file_window window.now }
+{
+    Window {
+        chromosome: u16_at(window, 0),
+        first: u64_at(window, 2),
+        bytes: bases_of(window),
+    }
+}
+
 // The lines of the calls from the cursor on. The letters of both genetic codes are laid out here, once for a piece.
+// No for: it begins at the cursor and ends with the cursor of the line that does not fit.
 pub(crate) fn fill_lines(
     window: &[u8],
     calls: &[u8],
-    table: &Table,
-    index: &TableIndex,
+    deck: OpenedDeck,
     cursor: Cursor,
     out: &mut [u8],
 ) -> Piece
-    requires admitted { AllAdmitted table.now }
-    requires indexed { index.now ≡ table_index table.now }
-    requires calls_size { length calls.now ≤ 65536 }
-    ensures { let ts = table_transcripts table.now in
-        let p = pack (length out.old) (steps_at ts (window_of window.now) calls.now cursor) in
+    requires { length calls.now ≤ 65536 }
+    ensures { let ts = table_transcripts deck.entry.table.now in
+        let p = pack (length out.old) (steps_at ts (file_window window.now) calls.now cursor) in
         (result ≡ filled_as p) × (out.new ≡ piece_to out.old p) }
 {
     let both = altered_letters();
-    let chromosome = u16_at(window, 0);
-    let first = u64_at(window, 2);
-    let window_bases = bases_of(window);
+    let bases = window_in(window);
     let mut at = cursor.at;
     let mut entry = cursor.entry;
     let mut number = line_number(calls, at);
@@ -51,11 +59,8 @@ pub(crate) fn fill_lines(
         let to = line_end(calls, at);
         let put = fill_parsed(
             &both,
-            chromosome,
-            first,
-            window_bases,
-            table,
-            index,
+            &bases,
+            deck,
             parse_call(&calls[at..to]),
             number,
             Cursor { at, entry },

@@ -9,6 +9,7 @@ ghost use Rattle.pieces.specs.code.Filling.{filled_as};
 use crate::TableIndex;
 use crate::fill::line_filled;
 use crate::line::fill_lines;
+use crate::opened::OpenedDeck;
 use common::refusal::Refusal;
 use deck::{DeckRefusal, Table};
 use lines::line::write_refusal;
@@ -56,6 +57,6 @@ pub fn next_piece(
 {
     match opening {
         Err(refused) => piece_of(fill_refusal(refused, cursor, out)),
-        Ok(()) => piece_of(fill_lines(window, calls, table, index, cursor, out)),
+        Ok(()) => piece_of(fill_lines(window, calls, OpenedDeck { table, index }, cursor, out)),
     }
 }

@@ -9,18 +9,18 @@ use deck::Table;
 use deck::rows::Rows;
 use footprint::has_frameshift_intron;
 use locate::store_sums;
-use transcript::Transcript;
+use transcript::admission::Admitted;
 use transcript::order::pad_of;
 
 // Stores the sums of an admitted transcript: of its exons from `row` on, of its CDS, if it has one, from `cds_row` on. Answers whether
 // it has a short intron.
-fn index_transcript(sums: &mut [u32], row: usize, cds_row: usize, transcript: &Transcript) -> bool
-    requires admitted { admission (transcript_of transcript.now) ≡ 0 }
-    requires room { (row + length transcript.now.exons.starts.now < cds_row) × (cds_row ≤ length sums.old) }
-    requires cds_room { let n = length transcript.now.segments.bases.starts.now in 0 < n → cds_row + n < length sums.old }
-    ensures { let t = transcript_of transcript.now in
+fn index_transcript(sums: &mut [u32], row: usize, cds_row: usize, admitted: Admitted) -> bool
+    requires room { (row + length admitted.transcript.now.exons.starts.now < cds_row) × (cds_row ≤ length sums.old) }
+    requires cds_room { let n = length admitted.transcript.now.segments.bases.starts.now in 0 < n → cds_row + n < length sums.old }
+    ensures { let t = transcript_of admitted.entry.transcript.now in
         (result ≡ is_short t) × (sums.new ≡ row_sums t row cds_row sums.old) }
 {
+    let transcript = admitted.transcript;
     let short = has_frameshift_intron(transcript.exons, transcript.model.strand);
     store_sums(sums, row, transcript.exons, 0);
     let segments = transcript.segments;
@@ -44,5 +44,8 @@ pub(crate) fn index_row(table: &Table, row: usize, rows: Rows, sums: &mut [u32])
         (result ≡ is_short t) × (sums.new ≡ row_sums t row rows.exons sums.old) }
 {
     let transcript = table.transcript(row, rows);
-    index_transcript(sums, row, rows.exons, &transcript)
+    let admitted = Admitted {
+        transcript: &transcript,
+    };
+    index_transcript(sums, row, rows.exons, admitted)
 }

@@ -7,6 +7,7 @@ use crate::Consequence;
 
 impl Consequence {
     // 1 for the most severe.
+    // The discriminant: no derive writes From.
     pub fn severity_rank(self) -> u32
         ensures { result ≡ severity_rank self }
     {

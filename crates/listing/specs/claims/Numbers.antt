@@ -1,12 +1,13 @@
 -- Demand 1 of the lister: its opening, its pieces, and every line that it prints.
 use Rattle.std.specs.Prelude.{ℕ, ◌≡◌, Bool, true, false, cond, not, ◌||◌, List, [], ◌∷◌, ◌⊎◌, length, get_or, ltb}
+use Rattle.std.specs.Result.{is_ok}
 use Rattle.common.specs.Refusal.{outcome_number}
 use Rattle.common.specs.Refuse.{refuse, or_else}
 use Rattle.common.specs.Lists.{memb}
 use Rattle.transcript.specs.claims.Numbers.{NumberGiven}
 use Rattle.consequence.specs.declared.ConsequenceResult.{ConsequenceResult}
 use Rattle.deck.specs.Deck.{read_deck}
-use Rattle.deck.specs.Numbers.{deck_number, deck_record, is_accepted}
+use Rattle.deck.specs.Numbers.{deck_number, deck_record}
 use Rattle.lines.specs.Line.{answer_line, refusal_line}
 use Rattle.lines.specs.claims.Numbers.{written_numbers}
 use Rattle.listing.specs.WindowFile.{bad_window_file, bad_call_file}
@@ -14,7 +15,7 @@ use Rattle.listing.specs.declared.Cursor.{Cursor}
 use Rattle.listing.specs.Calls.{fields_of, field, value, is_call, parse_call}
 use Rattle.listing.specs.Listing.{opening, listing}
 use Rattle.listing.specs.Pieces.{Step, steps, packed, piece_of}
-use Rattle.listing.specs.Numbers.{parsed_number, parsed_values, opening_values, is_piece}
+use Rattle.listing.specs.Numbers.{parsed_number, parsed_values, opening_values}
 
 -- 26 where a line has another shape; else the values of its four fields
 abbrev pub ParsedGiven : Type 0
@@ -32,13 +33,13 @@ abbrev pub OpeningGiven : Type 0
 OpeningGiven =
     (deck window calls : List ℕ) →
     NumberGiven opening_numbers (or_else (deck_number (read_deck deck)) (refuse (bad_window_file window || bad_call_file calls) 27 0))
-    (deck_number (opening deck window calls)) (is_accepted (opening deck window calls))
+    (deck_number (opening deck window calls)) (is_ok (opening deck window calls))
 
 -- the record named with a refusal: the deck's, 0 with 27
 abbrev pub OpeningValued : Type 0
 OpeningValued =
     (deck window calls : List ℕ) →
-    opening_values (opening deck window calls) ≡ cond (is_accepted (opening deck window calls)) [] (deck_record (read_deck deck) ∷ [])
+    opening_values (opening deck window calls) ≡ cond (is_ok (opening deck window calls)) [] (deck_record (read_deck deck) ∷ [])
 
 -- the first line is longer than the room
 abbrev pub line_too_long : ℕ → List Step → Bool
@@ -50,7 +51,7 @@ abbrev pub PieceGiven : Type 0
 PieceGiven =
     (deck window calls : List ℕ) (c : Cursor) (buffer : List ℕ) →
     let p = piece_of (packed deck window calls c buffer) in
-    NumberGiven written_numbers (refuse (line_too_long (length buffer) (steps deck window calls c)) 28 0) (outcome_number p) (is_piece p)
+    NumberGiven written_numbers (refuse (line_too_long (length buffer) (steps deck window calls c)) 28 0) (outcome_number p) (is_ok p)
 
 -- every element is so
 abbrev pub Each : {A : Type 0} → (A → Type 0) → List A → Type 0

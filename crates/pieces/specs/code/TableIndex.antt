@@ -1,5 +1,6 @@
 -- The index of a table: what is computed once for its transcripts.
 use Rattle.std.specs.Prelude.{ℕ, suc, ◌≡◌, Bool, false, cond, List, [], ◌∷◌, map, set, get_or, replicate, eqb}
+use Rattle.std.specs.Coded.{×_prop, Unit-prop, Coded-set, coded_ℕ}
 use Rattle.common.specs.Lists.{any}
 use Rattle.common.specs.Stored.{stored}
 use Rattle.transcript.specs.Transcript.{Transcript}
@@ -20,6 +21,14 @@ Admits t (k ∷ ks) = (admission (transcript_at t k) ≡ 0) × Admits t ks
 
 abbrev pub AllAdmitted : Table → Type 0
 AllAdmitted t = Admits t (transcript_rows t)
+
+Admits-prop : (t : Table) (ks : List ℕ) → IsProp (Admits t ks)
+Admits-prop t [] = Unit-prop
+Admits-prop t (k ∷ ks) = ×_prop (Coded-set coded_ℕ (admission (transcript_at t k)) 0) (Admits-prop t ks)
+
+-- a struct that holds this fact is its other fields alone
+pub AllAdmitted-prop : (t : Table) → IsProp (AllAdmitted t)
+AllAdmitted-prop t = Admits-prop t (transcript_rows t)
 
 -- a gap of the exons is short
 abbrev pub is_short : Transcript → Bool

@@ -18,12 +18,12 @@ loop-k-preserved c =
     = λ f v e. column_step f o k c.requires.few (omega arith) e in
     rw (
       c.loop-k.invariant,
-      step (kind_of d) _ c.kind_of.ensures,
-      step (mark_of d) _ c.mark_of.ensures,
-      step (λ i. word d i 4) _ c.word_of.ensures,
+      step (kind_of d) _ c.kind.ensures,
+      step (mark_of d) _ c.mark.ensures,
+      step (λ i. word d i 4) _ c.u32_at.ensures,
       step (number_of d) _ c.number_of.ensures,
       c.from.ensures,
-      step (λ i. word d i 4) _ c.word_of-in-loop-k.ensures,
+      step (λ i. word d i 4) _ c.u32_at-in-loop-k.ensures,
       c.from-in-loop-k.ensures,
-      step (λ i. word d i 8) _ c.word_of-in-loop-k-2.ensures,
+      step (λ i. word d i 8) _ c.u32_at-in-loop-k-2.ensures,
     )

@@ -8,7 +8,7 @@ use Rattle.pieces.proofs.CallLines.{lines_from}
 use Rattle.pieces.proofs.line.fill_lines.Given as goal
 
 abbrev pub invariant-loop-at : goal.invariant-loop-at
-invariant-loop-at l = Filling l.initial.out l.out l.filled (lines_from (table_transcripts l.table) (window_of l.window) l.calls l.number l.at l.entry) (pack (length l.initial.out) (lines_from (table_transcripts l.table) (window_of l.window) l.calls l.initial.number l.initial.at l.initial.entry))
+invariant-loop-at l = Filling l.initial.out l.out l.filled (lines_from (table_transcripts l.deck.table.now) (window_of l.window) l.calls l.number l.at l.entry) (pack (length l.initial.out) (lines_from (table_transcripts l.deck.table.now) (window_of l.window) l.calls l.initial.number l.initial.at l.initial.entry))
     × (l.number + (length l.calls - l.at) ≤ 65537)
 
 abbrev pub decreases-loop-at : goal.decreases-loop-at

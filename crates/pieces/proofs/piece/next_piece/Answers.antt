@@ -1,10 +1,13 @@
 use Rattle.pieces.proofs.Opening.{opened_ready, refused_steps, opened_steps, piece_made}
 use Rattle.pieces.proofs.piece.next_piece.Goals as goal
 
-pub fill_lines-requires : goal.fill_lines-requires
-fill_lines-requires c =
+pub invariant_of-fill_lines : goal.invariant_of-fill_lines
+invariant_of-fill_lines c =
     let h = opened_ready c.args.deck.now c.args.window.now c.args.calls.now c.requires c.in-Ok.is in
-    record { admitted = h.0; indexed = h.1.0; calls_size = h.1.1 }
+    record { admitted = h.0; indexed = h.1.0 }
+
+pub fill_lines-requires : goal.fill_lines-requires
+fill_lines-requires c = (opened_ready c.args.deck.now c.args.window.now c.args.calls.now c.requires c.in-Ok.is).1.1
 
 pub returns-in-Err : goal.returns-in-Err
 returns-in-Err c =

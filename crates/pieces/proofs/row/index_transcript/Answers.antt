@@ -10,16 +10,16 @@ use Rattle.pieces.proofs.row.index_transcript.Goals as goal
 
 pub store_sums-requires : goal.store_sums-requires
 store_sums-requires c =
-    let t = c.args.transcript.now in
-    let k = on t ad c.requires.admitted in
+    let t = c.args.admitted.transcript.now in
+    let k = on t ad c.args.admitted.admitted in
     let s = sizes_bound t.model.strand (exons_in t.exons) k.edges k.order in
     let q = c.requires.room in
     record { even = (k.even, omega arith); good_edges = k.edges; low = omega arith }
 
 pub store_sums-requires-then-segments-ne0 : goal.store_sums-requires-then-segments-ne0
 store_sums-requires-then-segments-ne0 c =
-    let t = c.args.transcript.now in
-    let k = on t ad c.requires.admitted in
+    let t = c.args.admitted.transcript.now in
+    let k = on t ad c.args.admitted.admitted in
     let s = sizes_bound t.model.strand (exons_in t.segments.bases) k.segment_edges k.segment_order in
     let p = pad_low t.segments.phases.now in
     let e = c.pad_of.ensures in
@@ -32,7 +32,7 @@ pub returns-else-segments-ne0 : goal.returns-else-segments-ne0
 returns-else-segments-ne0 c =
     let f = c.has_frameshift_intron-short in
     let s = c.store_sums in
-    on c.args.transcript.now row_alone c.requires.admitted c.args.row c.args.cds_row c.args.sums.now f.result s.new.sums f.ensures s.ensures (omega arith)
+    on c.args.admitted.transcript.now row_alone c.args.admitted.admitted c.args.row c.args.cds_row c.args.sums.now f.result s.new.sums f.ensures s.ensures (omega arith)
 
 pub returns-then-segments-ne0 : goal.returns-then-segments-ne0
 returns-then-segments-ne0 c =
@@ -40,4 +40,4 @@ returns-then-segments-ne0 c =
     let s = c.store_sums in
     let p = c.from in
     let t = c.store_sums-then-segments-ne0 in
-    on c.args.transcript.now row_coding c.requires.admitted c.args.row c.args.cds_row c.args.sums.now f.result s.new.sums f.ensures s.ensures p.result t.new.sums (p.ensures ∙ c.pad_of.ensures) t.ensures (omega arith)
+    on c.args.admitted.transcript.now row_coding c.args.admitted.admitted c.args.row c.args.cds_row c.args.sums.now f.result s.new.sums f.ensures s.ensures p.result t.new.sums (p.ensures ∙ c.pad_of.ensures) t.ensures (omega arith)
