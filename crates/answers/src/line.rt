@@ -1,17 +1,17 @@
 // The printed line of a call on a transcript.
 ghost use Rattle.std.specs.Prelude.{◌≡◌};
 ghost use Rattle.transcript.specs.Transcript.{transcript_of};
-ghost use Rattle.consequence.specs.Window.{window_was_given};
+ghost use Rattle.consequence.specs.Window.{window_of};
 ghost use Rattle.answers.specs.Lines.{line_outcome, LineAnswered};
 
 use common::refusal::Refusal;
-use consequence::{Call, annotate_snv};
+use consequence::{Call, Window, annotate_snv};
 use lines::write_called;
 use transcript::Transcript;
 use words::VareffectOutcome;
 
 // C takes a number and a value.
-fn outcome_of(written: Result<usize, Refusal>) -> VareffectOutcome
+pub fn outcome_of(written: Result<usize, Refusal>) -> VareffectOutcome
     ensures { result ≡ line_outcome written }
 {
     match written {
@@ -29,18 +29,16 @@ fn outcome_of(written: Result<usize, Refusal>) -> VareffectOutcome
 // The line, newline included, at the buffer's start, and its length; 28 where it does not fit.
 pub fn answer_line(
     number: u64,
-    window_chromosome: u16,
-    window_first: u64,
-    window: &[u8],
+    window: &Window,
     call: Call,
     transcript: &Transcript,
     out: &mut [u8],
 ) -> VareffectOutcome
     ensures { let t = transcript_of transcript.now in
-        let w = window_was_given window_chromosome window_first window in
+        let w = window_of window.now in
         LineAnswered t w call number out.old out.new result }
 {
-    let called = annotate_snv(window_chromosome, window_first, window, call, transcript);
+    let called = annotate_snv(window, call, transcript);
     let written = write_called(out, number, transcript.model.id, called);
     outcome_of(written)
 }

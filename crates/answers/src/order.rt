@@ -4,13 +4,12 @@ ghost use Rattle.transcript.specs.Limits.{top};
 ghost use Rattle.transcript.specs.Transcript.{transcript_of};
 ghost use Rattle.transcript.specs.Orient.{oriented};
 ghost use Rattle.locate.specs.Place.{locate};
-ghost use Rattle.answers.specs.code.Ready.{Ready};
 
+use crate::lent::Indexed;
 use footprint::Ranges;
+use locate::VariantLocation;
 use locate::place::place_of_base;
-use locate::unordered::place_unordered;
-use locate::{LocateIndex, VariantLocation};
-use transcript::Transcript;
+use transcript::admission::Admitted;
 
 // Whether no position is below the one before it. No answer rests on it, only how fast it comes.
 pub(crate) fn ascends(positions: &[u64]) -> bool {
@@ -21,28 +20,30 @@ pub(crate) fn ascends(positions: &[u64]) -> bool {
 pub(crate) fn place_by_order(
     ascending: bool,
     ranges: Ranges,
-    transcript: &Transcript,
-    index: &LocateIndex,
+    indexed: Indexed,
     p: u64,
 ) -> VariantLocation
-    requires ready { Ready (transcript_of transcript.now) index.now }
-    requires low { p ≤ top }
-    ensures { result ≡ locate ranges (oriented (transcript_of transcript.now)) p }
+    requires { p ≤ top }
+    ensures { result ≡ locate ranges (oriented (transcript_of indexed.entry.transcript.now)) p }
 {
     if ascending {
-        place_of_base(
+        place_of_base::<true>(
             ranges,
-            transcript,
-            index.scalars,
-            &index.cumulative_exons,
+            Admitted {
+                transcript: indexed.transcript,
+            },
+            indexed.index.scalars,
+            &indexed.index.cumulative_exons,
             p,
         )
     } else {
-        place_unordered(
+        place_of_base::<false>(
             ranges,
-            transcript,
-            index.scalars,
-            &index.cumulative_exons,
+            Admitted {
+                transcript: indexed.transcript,
+            },
+            indexed.index.scalars,
+            &indexed.index.cumulative_exons,
             p,
         )
     }

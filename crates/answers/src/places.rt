@@ -2,32 +2,25 @@
 ghost use Rattle.std.specs.Prelude.{◌≡◌, length, ◌*◌, ◌<◌, ◌^◌};
 ghost use Rattle.common.specs.Refusal.{outcome_number};
 ghost use Rattle.transcript.specs.Transcript.{transcript_of};
-ghost use Rattle.answers.specs.code.Ready.{Ready};
 ghost use Rattle.answers.specs.Lists.{places_words, PlacesAnswered};
 
+use crate::lent::Indexed;
 use crate::position::locate_position;
 use common::refusal::Refusal;
 use footprint::{Ranges, source_ranges};
-use locate::{LocateIndex, index_of};
-use transcript::{Transcript, admit};
+use locate::index_of;
+use transcript::Transcript;
+use transcript::admission::Admitted;
 use words::{PLACE_WORDS, put_located};
 
 // The places of the positions, one behind the other.
-fn put_places(
-    ranges: Ranges,
-    chromosome: u16,
-    positions: &[u64],
-    transcript: &Transcript,
-    index: &LocateIndex,
-    out: &mut [i64],
-)
-    requires ready { Ready (transcript_of transcript.now) index.now }
+fn put_places(ranges: Ranges, chromosome: u16, positions: &[u64], indexed: Indexed, out: &mut [i64])
     requires near { ranges.flank < 2 ^ 32 }
     requires fits { length out.old ≡ 8 * length positions.now }
-    ensures { out.new ≡ places_words ranges (transcript_of transcript.now) chromosome positions.now }
+    ensures { out.new ≡ places_words ranges (transcript_of indexed.entry.transcript.now) chromosome positions.now }
 {
     for i in 0..positions.len() {
-        let located = locate_position(ranges, chromosome, positions[i], transcript, index);
+        let located = locate_position(ranges, chromosome, positions[i], indexed);
         put_located(out, PLACE_WORDS * i, located);
     }
 }
@@ -46,14 +39,16 @@ pub fn answer_places(
     if n % PLACE_WORDS != 0 || n / PLACE_WORDS != positions.len() {
         return Err(Refusal::Counts);
     }
-    admit(transcript)?;
-    let index = index_of(transcript);
+    let admitted = Admitted::of(transcript)?;
+    let index = index_of(admitted);
     put_places(
         source_ranges(),
         chromosome,
         positions,
-        transcript,
-        &index,
+        Indexed {
+            transcript,
+            index: &index,
+        },
         out,
     );
     Ok(())

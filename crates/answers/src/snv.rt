@@ -1,19 +1,19 @@
 // The answer to a call on an admitted transcript, put as numbers.
 ghost use Rattle.std.specs.Prelude.{◌≡◌, ◌+◌, ◌≤◌, ◌<◌, ◌^◌, length};
 ghost use Rattle.std.proofs.lemmas.List.Edits.{sets};
-ghost use Rattle.codon.specs.code.Letters.{AlteredLetters};
+ghost use Rattle.codon.specs.code.Letters.{LentLetters};
 ghost use Rattle.transcript.specs.Transcript.{transcript_of};
-ghost use Rattle.consequence.specs.Window.{window_was_given};
+ghost use Rattle.consequence.specs.Window.{window_of};
 ghost use Rattle.consequence.specs.Call.{call_table};
 ghost use Rattle.answers.specs.Calls.{call_words};
-ghost use Rattle.answers.specs.code.Ready.{Ready};
 
 use crate::cds::put_cds_snv;
+use crate::lent::Indexed;
 use crate::order::place_by_order;
-use consequence::{Call, annotate_placed, judge_opening};
+use codon::CodeLetters;
+use consequence::{Call, Window, annotate_placed, judge_opening};
 use footprint::Ranges;
-use locate::{LocateIndex, VariantLocation};
-use transcript::Transcript;
+use locate::VariantLocation;
 use transcript::question::base_of;
 use words::{put_called, put_refusal};
 
@@ -22,36 +22,26 @@ use words::{put_called, put_refusal};
 pub(crate) fn put_snv(
     ascending: bool,
     ranges: Ranges,
-    letters: &[u8],
-    window_chromosome: u16,
-    window_first: u64,
-    window: &[u8],
+    letters: CodeLetters,
+    window: &Window,
     call: Call,
-    transcript: &Transcript,
-    index: &LocateIndex,
+    indexed: Indexed,
     out: &mut [i64],
     at: usize,
 )
-    requires ready { Ready (transcript_of transcript.now) index.now }
-    requires letters { AlteredLetters (call_table (transcript_of transcript.now)) letters.now }
+    requires letters { LentLetters (call_table (transcript_of indexed.transcript.now)) letters }
     requires near { ranges.flank < 2 ^ 32 }
     requires room { at + 20 ≤ length out.old }
-    ensures { let w = window_was_given window_chromosome window_first window in
-        out.new ≡ sets out.old at (call_words ranges (transcript_of transcript.now) w call) }
+    ensures { let w = window_of window.now in
+        out.new ≡ sets out.old at (call_words ranges (transcript_of indexed.entry.transcript.now) w call) }
 {
-    let opening = judge_opening(
-        transcript.model.chromosome,
-        window_chromosome,
-        window_first,
-        window,
-        call,
-    );
+    let opening = judge_opening(indexed.transcript.model.chromosome, window, call);
     if let Err(refusal) = opening {
         put_refusal(out, at, u8::from(refusal));
         return;
     }
-    let p = base_of(transcript.model.strand, call.position);
-    let place = place_by_order(ascending, ranges, transcript, index, p);
+    let p = base_of(indexed.transcript.model.strand, call.position);
+    let place = place_by_order(ascending, ranges, indexed, p);
     if let VariantLocation::CdsExon {
         exon_index,
         cds_segment_index,
@@ -64,11 +54,9 @@ pub(crate) fn put_snv(
         put_cds_snv(
             ranges,
             letters,
-            window_first,
             window,
             call.alt_base,
-            transcript,
-            index,
+            indexed,
             exon_index,
             cds_segment_index,
             cds_offset,
@@ -84,14 +72,13 @@ pub(crate) fn put_snv(
     let called = annotate_placed(
         ranges,
         letters,
-        window_first,
         window,
         call.alt_base,
-        transcript,
-        index.scalars,
-        &index.cumulative_exons,
-        &index.cumulative_cds,
-        &index.selenocysteine_codons,
+        indexed.transcript,
+        indexed.index.scalars,
+        &indexed.index.cumulative_exons,
+        &indexed.index.cumulative_cds,
+        &indexed.index.selenocysteine_codons,
         place,
         p,
     );

@@ -4,7 +4,7 @@ ghost use Rattle.words.specs.Model.{model_of};
 ghost use Rattle.words.specs.Call.{call_of, window_of};
 ghost use Rattle.answers.specs.Calls.{CallAnswered, CallsAnswered};
 
-use crate::given::{number_of, transcript_of};
+use crate::given::{number_of, transcript_of, window_of};
 use answers::{answer_call, answer_calls};
 use words::{VareffectCall, VareffectModel, VareffectWindow, call_of};
 
@@ -37,14 +37,7 @@ pub fn vareffect_call(
         seg_ends,
         selenocysteine,
     );
-    let answer = answer_call(
-        window.chromosome,
-        window.first,
-        bases,
-        call_of(call),
-        &transcript,
-        out,
-    );
+    let answer = answer_call(&window_of(window, bases), call_of(call), &transcript, out);
     number_of(answer)
 }
 
@@ -81,9 +74,7 @@ pub fn vareffect_calls(
         selenocysteine,
     );
     let answer = answer_calls(
-        window.chromosome,
-        window.first,
-        bases,
+        &window_of(window, bases),
         chromosomes,
         positions,
         refs,

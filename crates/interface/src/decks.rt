@@ -9,6 +9,7 @@ use contents::{deck_ids, deck_transcript};
 use deck::{DeckRefusal, check_deck};
 use words::VareffectOutcome;
 
+// A number beside a value: what callers in C get, who have no Result.
 fn deck_outcome(answer: Result<usize, DeckRefusal>) -> VareffectOutcome
     ensures { result ≡ deck_outcome answer }
 {

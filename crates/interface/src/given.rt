@@ -1,12 +1,16 @@
-// What is handed in and given back across the interface: a transcript, list by list, and the number of a refusal.
+// What is handed in and given back across the interface: a transcript, list by list, since C lends pointer and length and has no struct of
+// slices, a window, and the number of a refusal.
 ghost use Rattle.std.specs.Prelude.{◌≡◌};
 ghost use Rattle.common.specs.Refusal.{outcome_number};
 ghost use Rattle.transcript.specs.Transcript.{transcript_of, was_given};
+ghost use Rattle.consequence.specs.Window.{window_of};
 ghost use Rattle.words.specs.Model.{model_of};
+ghost use Rattle.words.specs.Call.{window_of as window_given};
 
 use common::refusal::Refusal;
+use consequence::Window;
 use transcript::{CdsSegments, Intervals, Transcript};
-use words::{VareffectModel, model_of};
+use words::{VareffectModel, VareffectWindow, model_of};
 
 pub(crate) fn transcript_of<'a>(
     model: VareffectModel,
@@ -36,6 +40,16 @@ pub(crate) fn transcript_of<'a>(
             },
         },
         selenocysteine,
+    }
+}
+
+pub(crate) fn window_of<'a>(window: VareffectWindow, bases: &'a [u8]) -> Window<'a>
+    ensures { window_of result ≡ window_given window bases }
+{
+    Window {
+        chromosome: window.chromosome,
+        first: window.first,
+        bytes: bases,
     }
 }
 

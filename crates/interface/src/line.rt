@@ -4,7 +4,7 @@ ghost use Rattle.words.specs.Model.{model_of};
 ghost use Rattle.words.specs.Call.{call_of, window_of};
 ghost use Rattle.answers.specs.Lines.{LineAnswered};
 
-use crate::given::transcript_of;
+use crate::given::{transcript_of, window_of};
 use answers::answer_line;
 use words::{VareffectCall, VareffectModel, VareffectOutcome, VareffectWindow, call_of};
 
@@ -40,9 +40,7 @@ pub fn vareffect_line(
     );
     answer_line(
         number,
-        window.chromosome,
-        window.first,
-        bases,
+        &window_of(window, bases),
         call_of(call),
         &transcript,
         out,

@@ -1,8 +1,9 @@
 // The listing of a deck, a window file and calls, piece by piece.
 ghost use Rattle.std.specs.Prelude.{◌≡◌};
 ghost use Rattle.listing.specs.Pieces.{piece_of, piece_to};
-ghost use Rattle.interface.specs.List.{piece_at, piece_outcome, moved_to, moved, Listed};
+ghost use Rattle.interface.specs.List.{piece_at, moved_to, moved, Listed};
 
+use answers::outcome_of;
 use common::refusal::Refusal;
 use listing::{Cursor, Piece};
 use pieces::list_piece;
@@ -30,21 +31,6 @@ fn piece_at(
         entry: cursor[1],
     };
     list_piece(deck, window, calls, from, out)
-}
-
-fn outcome_of(piece: Result<Piece, Refusal>) -> VareffectOutcome
-    ensures { result ≡ piece_outcome piece }
-{
-    match piece {
-        Ok(piece) => VareffectOutcome {
-            number: 0,
-            value: piece.length as u64,
-        },
-        Err(refusal) => VareffectOutcome {
-            number: refusal as u64,
-            value: 0,
-        },
-    }
 }
 
 fn move_to(cursor: &mut [usize; 3], next: Option<Cursor>)
@@ -82,5 +68,5 @@ pub fn vareffect_list(
 {
     let piece = piece_at(deck, window, calls, cursor, out);
     move_on(cursor, piece);
-    outcome_of(piece)
+    outcome_of(piece.map(|piece| piece.length))
 }

@@ -1,4 +1,5 @@
-// The exports of `interface` for C: each calls the function of its name there and states its clauses again.
+// The exports of `interface` for C: each calls the function of its name there and states its clauses again, since C sees only what is
+// exported under its own name.
 #![tactic(auto)]
 
 mod abi;

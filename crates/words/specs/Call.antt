@@ -1,7 +1,7 @@
 -- A call and a window as they are handed in.
 use Rattle.common.specs.Slices.{Passed}
 use Rattle.consequence.specs.declared.Call.{Call}
-use Rattle.consequence.specs.Window.{Window, window_was_given}
+use Rattle.consequence.specs.Window.{Window}
 use Rattle.words.specs.declared.VareffectCall.{VareffectCall}
 use Rattle.words.specs.declared.VareffectWindow.{VareffectWindow}
 
@@ -15,4 +15,4 @@ call_of c = record {
 
 -- the bases that were lent stand where the window begins
 abbrev pub window_of : VareffectWindow → Passed → Window
-window_of w bases = window_was_given w.chromosome w.first bases
+window_of w bases = record { chromosome = w.chromosome; first = w.first; bytes = bases.entry.now }

@@ -7,7 +7,7 @@ ghost use Rattle.words.specs.code.Near.{capped_words};
 use crate::columns::put_columns;
 use crate::located::put_row;
 use crate::row::row_of;
-use crate::words::{has_room, put_counts};
+use crate::words::{has_room, put_all};
 use consequence::{Called, ConsequenceResult};
 
 fn put_result(out: &mut [i64], at: usize, a: ConsequenceResult)
@@ -23,11 +23,9 @@ pub fn put_refusal(out: &mut [i64], at: usize, n: u8)
     requires { at + 20 ≤ length out.old }
     ensures { out.new ≡ sets out.old at (pos n ∷ replicate 19 (pos 0)) }
 {
-    put_counts(out, at, u32::from(n), 0, 0, 0);
-    put_counts(out, at + 4, 0, 0, 0, 0);
-    put_counts(out, at + 8, 0, 0, 0, 0);
-    put_counts(out, at + 12, 0, 0, 0, 0);
-    put_counts(out, at + 16, 0, 0, 0, 0);
+    let mut words = [0; 20];
+    words[0] = i64::from(n);
+    put_all(out, at, &words);
 }
 
 // An answer as 20 numbers.

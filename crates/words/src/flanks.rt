@@ -11,6 +11,7 @@ use common::refusal::Refusal;
 use footprint::{Flank, SpliceSpill};
 
 // Kind and distance.
+// Kinds as numbers: callers in C get them.
 fn flank_counts(flank: Flank) -> (u32, u32)
     ensures { pos result.0 ∷ pos result.1 ∷ [] ≡ flank_words (Ok (capped_flank flank)) }
 {

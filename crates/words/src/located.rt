@@ -7,7 +7,7 @@ ghost use Rattle.words.specs.code.Put.{put_at};
 ghost use Rattle.words.specs.code.Near.{capped_at};
 
 use crate::row::{Row, row_of};
-use crate::words::{has_room, put_counts, put4, signed};
+use crate::words::{has_room, put_all, put_counts, put4, signed};
 use common::refusal::Refusal;
 use locate::VariantLocation;
 
@@ -32,11 +32,11 @@ fn put_refusal(out: &mut [i64], at: usize, refusal: Refusal)
     requires { at + 8 ≤ length out.old }
     ensures { out.new ≡ sets out.old at (located_words (Err refusal)) }
 {
-    put_counts(out, at, refusal as u32, 0, 0, 0);
-    put_counts(out, at + 4, 0, 0, 0, 0);
+    put_all(out, at, &[refusal as i64, 0, 0, 0, 0, 0, 0, 0]);
 }
 
 // An answer as 8 numbers.
+#[inline(always)]
 fn store_located(out: &mut [i64], at: usize, located: Result<VariantLocation, Refusal>)
     requires { at + 8 ≤ length out.old }
     ensures { out.new ≡ sets out.old at (located_words (capped_at located)) }
@@ -47,7 +47,8 @@ fn store_located(out: &mut [i64], at: usize, located: Result<VariantLocation, Re
     }
 }
 
-// The same in any buffer. Where the numbers do not fit nothing is stored.
+// The same in any buffer. Where the numbers do not fit nothing is stored. Inlined, so that a place of a list is not laid out twice.
+#[inline(always)]
 pub fn put_located(out: &mut [i64], at: usize, located: Result<VariantLocation, Refusal>)
     ensures { out.new ≡ put_at out.old at (located_words (capped_at located)) }
 {

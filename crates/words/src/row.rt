@@ -21,6 +21,7 @@ pub(crate) struct Row {
 }
 
 // A row with no segment, codon position or codon number.
+// Kinds as numbers: callers in C get them, in the order of VariantLocation's cases.
 fn plain(kind: u32, mark: u32, index: u16, distance: i64) -> Row
     ensures { row_words result ≡ pos kind ∷ plain_words mark index distance }
 {

@@ -43,6 +43,15 @@ pub(crate) fn put_counts(out: &mut [i64], at: usize, a: u32, b: u32, c: u32, d: 
     put4(out, at, signed(a), signed(b), signed(c), signed(d));
 }
 
+// Numbers from a position on.
+#[tactic(auto, using(crate::proofs::Putting::put_part))]
+pub(crate) fn put_all(out: &mut [i64], at: usize, words: &[i64])
+    requires { at + length words.now ≤ length out.old }
+    ensures { out.new ≡ sets out.old at words.now }
+{
+    out[at..at + words.len()].copy_from_slice(words);
+}
+
 // Three counts from a position on.
 pub(crate) fn put_three(out: &mut [i64], at: usize, a: u32, b: u32, c: u32)
     requires { at + 3 ≤ length out.old }

@@ -4,7 +4,7 @@ use Rattle.std.specs.Prelude.{Ok}
 use Rattle.common.specs.Refusal.{outcome_number}
 use Rattle.transcript.specs.Transcript.{transcript_of}
 use Rattle.footprint.specs.Ranges.{source_ranges}
-use Rattle.consequence.specs.Window.{Window}
+use Rattle.consequence.specs.Window.{window_of}
 use Rattle.consequence.specs.Numbers.{called_words}
 use Rattle.consequence.specs.Call.{annotate_snv}
 use Rattle.words.proofs.Putting.{whole}
@@ -18,7 +18,7 @@ use Rattle.answers.proofs.call.answer_call.Goals as goal
 pub returns : goal.returns
 returns c =
     let t = transcript_of c.args.transcript.now in
-    let w : Window = record { chromosome = c.args.window_chromosome; first = c.args.window_first; bytes = c.args.window.now } in
+    let w = window_of c.args.window.now in
     let x = annotate_snv source_ranges t w c.args.call in
     let e : x ≡ Ok c.in_ok-answer.answer = sym c.annotate_snv.ensures ∙ c.in_ok-answer.was in
     let near : Answers NearResult (Ok c.in_ok-answer.answer) = rw e at (near_called source_ranges t w c.args.call (omega arith)) in

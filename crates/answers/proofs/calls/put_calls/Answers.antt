@@ -7,7 +7,7 @@ use lib.IntN.{ℤ}
 use lib.Seq.{sets}
 use Rattle.transcript.specs.Transcript.{transcript_of}
 use Rattle.consequence.specs.declared.Call.{Call}
-use Rattle.consequence.specs.Window.{Window}
+use Rattle.consequence.specs.Window.{Window, window_of}
 use Rattle.consequence.specs.Call.{annotate_snv}
 use Rattle.words.proofs.WordLengths.{called_length}
 use Rattle.answers.specs.Calls.{snv, calls_of, call_words}
@@ -17,13 +17,13 @@ use Rattle.answers.proofs.calls.put_calls.Goals as goal
 use Rattle.answers.proofs.calls.put_calls.Goals.{Start}
 
 abbrev window : Start → Window
-window b = record { chromosome = b.args.window_chromosome; first = b.args.window_first; bytes = b.args.window.now }
+window b = window_of b.args.window.now
 
 abbrev words : Start → Call → List ℤ
-words b q = call_words b.args.ranges (transcript_of b.args.transcript.now) (window b) q
+words b q = call_words b.args.ranges (transcript_of b.args.indexed.transcript.now) (window b) q
 
 length_20 : (b : Start) (q : Call) → length (words b q) ≡ 20
-length_20 b q = called_length (annotate_snv b.args.ranges (transcript_of b.args.transcript.now) (window b) q)
+length_20 b q = called_length (annotate_snv b.args.ranges (transcript_of b.args.indexed.transcript.now) (window b) q)
 
 abbrev calls : Start → List Call
 calls b = calls_of b.args.chromosomes.now b.args.positions.now b.args.refs.now b.args.alts.now

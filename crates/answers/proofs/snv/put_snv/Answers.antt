@@ -13,7 +13,7 @@ use Rattle.transcript.specs.Transcript.{Transcript, transcript_of}
 use Rattle.transcript.specs.Orient.{orient_base}
 use Rattle.transcript.proofs.Asking.{base_low}
 use Rattle.consequence.specs.Called.{Called}
-use Rattle.consequence.specs.Window.{Window}
+use Rattle.consequence.specs.Window.{Window, window_of}
 use Rattle.consequence.specs.Call.{opening_refusal}
 use Rattle.consequence.specs.Numbers.{called_words}
 use Rattle.consequence.proofs.Refusals.{opening_within}
@@ -26,10 +26,10 @@ use Rattle.answers.proofs.snv.put_snv.Goals as goal
 use Rattle.answers.proofs.snv.put_snv.Goals.{Start}
 
 abbrev transcript : Start → Transcript
-transcript b = transcript_of b.args.transcript.now
+transcript b = transcript_of b.args.indexed.transcript.now
 
 abbrev window : Start → Window
-window b = record { chromosome = b.args.window_chromosome; first = b.args.window_first; bytes = b.args.window.now }
+window b = window_of b.args.window.now
 
 abbrev opening : Start → ℕ
 opening b = opening_refusal (transcript b) (window b) b.args.call
@@ -38,8 +38,8 @@ opening b = opening_refusal (transcript b) (window b) b.args.call
 opened : (b : Start) (r : Result (Unit {0}) Refusal) (u : Unit {0}) → r ≡ outcome (opening b) tt → r ≡ Ok u → opening b ≡ 0
 opened b r u e o = was_answered tt (opening b) u (sym e ∙ o)
 
-low : (b : Start) (p : ℕ) → p ≡ orient_base b.args.transcript.now.model.strand b.args.call.position → opening b ≡ 0 → p ≤ top
-low b p e h = rw e (base_low b.args.transcript.now.model.strand b.args.call.position (opening_within (transcript b) (window b) b.args.call b.requires.ready.admitted h))
+low : (b : Start) (p : ℕ) → p ≡ orient_base b.args.indexed.transcript.now.model.strand b.args.call.position → opening b ≡ 0 → p ≤ top
+low b p e h = rw e (base_low b.args.indexed.transcript.now.model.strand b.args.call.position (opening_within (transcript b) (window b) b.args.call b.args.indexed.ready.admitted h))
 
 -- the buffer with an answer
 abbrev left : Start → Called → List ℤ
@@ -50,26 +50,26 @@ returns-in-Err c =
     let b = (goal.at.returns-in-Err c).Start in
     let r = c.judge_opening-opening in
     rw c.from.ensures at c.put_refusal.ensures
-    ∙ ap (left b) (refused c.args.ranges (transcript b) (window b) c.args.call c.in-Err.refusal (sym (r.ensures (transcript b) c.requires.ready.admitted refl) ∙ c.in-Err.is))
+    ∙ ap (left b) (refused c.args.ranges (transcript b) (window b) c.args.call c.in-Err.refusal (sym (r.ensures (transcript b) c.args.indexed.ready.admitted refl) ∙ c.in-Err.is))
 
-pub place_by_order-place-requires-clause-low : goal.place_by_order-place-requires-clause-low
-place_by_order-place-requires-clause-low c =
-    let b = (goal.at.place_by_order-place-requires-clause-low c).Start in
+pub place_by_order-place-requires : goal.place_by_order-place-requires
+place_by_order-place-requires c =
+    let b = (goal.at.place_by_order-place-requires c).Start in
     let r = c.judge_opening-opening in
-    low b c.base_of-p.result c.base_of-p.ensures (opened b r.result c.in_default.field-0 (r.ensures (transcript b) c.requires.ready.admitted refl) c.in_default.is)
+    low b c.base_of-p.result c.base_of-p.ensures (opened b r.result c.in_default.field-0 (r.ensures (transcript b) c.args.indexed.ready.admitted refl) c.in_default.is)
 
 pub put_cds_snv-requires-clause-low : goal.put_cds_snv-requires-clause-low
 put_cds_snv-requires-clause-low c =
     let b = (goal.at.put_cds_snv-requires-clause-low c).Start in
     let r = c.judge_opening-opening in
-    low b c.base_of-p.result c.base_of-p.ensures (opened b r.result c.in_default.field-0 (r.ensures (transcript b) c.requires.ready.admitted refl) c.in_default.is)
+    low b c.base_of-p.result c.base_of-p.ensures (opened b r.result c.in_default.field-0 (r.ensures (transcript b) c.args.indexed.ready.admitted refl) c.in_default.is)
 
 pub returns-in-CdsExon : goal.returns-in-CdsExon
 returns-in-CdsExon c =
     let b = (goal.at.returns-in-CdsExon c).Start in
     let r = c.judge_opening-opening in
     let p = c.base_of-p in
-    let o = opened b r.result c.in_default.field-0 (r.ensures (transcript b) c.requires.ready.admitted refl) c.in_default.is in
+    let o = opened b r.result c.in_default.field-0 (r.ensures (transcript b) c.args.indexed.ready.admitted refl) c.in_default.is in
     c.put_cds_snv.ensures
     ∙ ap (left b) (answered c.args.ranges (transcript b) (window b) c.args.call o p.result p.ensures _ (sym c.in-CdsExon.is ∙ c.place_by_order-place.ensures) _ refl _ refl)
 
@@ -77,9 +77,9 @@ pub annotate_placed-called-requires : goal.annotate_placed-called-requires
 annotate_placed-called-requires c =
     let b = (goal.at.annotate_placed-called-requires c).Start in
     let r = c.judge_opening-opening in
-    let o = opened b r.result c.in_default.field-0 (r.ensures (transcript b) c.requires.ready.admitted refl) c.in_default.is in
+    let o = opened b r.result c.in_default.field-0 (r.ensures (transcript b) c.args.indexed.ready.admitted refl) c.in_default.is in
     record {
-      prepared = prepared c.args.transcript.now c.args.index.now c.requires.ready;
+      prepared = prepared c.args.indexed;
       located = c.place_by_order-place.ensures;
       letters = c.requires.letters;
       low = low b c.base_of-p.result c.base_of-p.ensures o;
@@ -92,7 +92,7 @@ returns c =
     let p = c.base_of-p in
     let h = c.place_by_order-place in
     let x = c.annotate_placed-called in
-    let o = opened b r.result c.in_default.field-0 (r.ensures (transcript b) c.requires.ready.admitted refl) c.in_default.is in
+    let o = opened b r.result c.in_default.field-0 (r.ensures (transcript b) c.args.indexed.ready.admitted refl) c.in_default.is in
     let e = x.ensures ∙ answered c.args.ranges (transcript b) (window b) c.args.call o p.result p.ensures h.result h.ensures _ refl _ refl in
     let near : Answers NearResult x.result = rw e (near_called c.args.ranges (transcript b) (window b) c.args.call c.requires.near) in
     c.put_called.ensures ∙ called_fits c.args.out.now c.args.at x.result c.requires.room near ∙ ap (left b) e
