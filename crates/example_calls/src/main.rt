@@ -1,15 +1,19 @@
 // Document 01's transcript T1 with its window, and its three calls, printed as lines.
 #![tactic(auto)]
 
-use consequence::{Call, annotate_snv};
+use consequence::{Call, Window, annotate_snv};
 use console::print;
 use lines::write_called;
 use transcript::{CdsBounds, CdsSegments, Intervals, Strand, Transcript, TranscriptModel};
 
 // 90 bases from coordinate 100: all A save T at 111 and 167, G at 112 and 128.
-const WINDOW: [u8; 90] = *b"\
+const WINDOW: Window<'static> = Window {
+    chromosome: 1,
+    first: 100,
+    bytes: b"\
 AAAAAAAAAAATGAAAAAAAAAAAAAAAGAAAAAAAAAAAAAAAA\
-AAAAAAAAAAAAAAAAAAAAAATAAAAAAAAAAAAAAAAAAAAAA";
+AAAAAAAAAAAAAAAAAAAAAATAAAAAAAAAAAAAAAAAAAAAA",
+};
 
 // T1: exons [100,130) and [160,190), CDS [110,170), phases 0 and 1, start complete.
 const T1: Transcript<'static> = Transcript {
@@ -49,7 +53,7 @@ fn show(rt: &impl Print, number: u64, position: u64, ref_base: u8, alt_base: u8)
         ref_base,
         alt_base,
     };
-    let called = annotate_snv(1, 100, &WINDOW, call, &T1);
+    let called = annotate_snv(&WINDOW, call, &T1);
     let mut out = [0u8; 256];
     if let Ok(n) = write_called(&mut out, number, 7, called) {
         print(rt, &out[..n]);

@@ -10,15 +10,9 @@ fn counted(rt: &impl Print, name: &[u8], n: u64) {
     number(rt, n);
 }
 
-// A name with a distance or an offset.
-fn measured(rt: &impl Print, name: &[u8], n: i64) {
-    print(rt, name);
-    signed(rt, n);
-}
-
 // A coding base: its offset, its codon, its place in the codon, and its mark.
 fn coding_base(rt: &impl Print, offset: u32, codon: u32, position: u8, is_splice_region: bool) {
-    counted(rt, b"CdsExon", offset as u64);
+    number(rt, offset as u64);
     number(rt, codon as u64);
     number(rt, position as u64);
     if is_splice_region {
@@ -26,16 +20,57 @@ fn coding_base(rt: &impl Print, offset: u32, codon: u32, position: u8, is_splice
     }
 }
 
-// The place's name with what document 01 says of it.
-pub(crate) fn show_place(rt: &impl Print, place: VariantLocation) {
+// The names as this example prints them.
+fn name_of(place: VariantLocation) -> &'static [u8] {
     match place {
-        VariantLocation::Upstream { distance } => counted(rt, b"Upstream", distance),
-        VariantLocation::Downstream { distance } => counted(rt, b"Downstream", distance),
-        VariantLocation::Distal => print(rt, b"Distal"),
+        VariantLocation::Upstream { .. } => b"Upstream",
+        VariantLocation::Downstream { .. } => b"Downstream",
+        VariantLocation::Distal => b"Distal",
+        VariantLocation::FivePrimeUtr { .. } => b"FivePrimeUtr",
+        VariantLocation::CdsExon { .. } => b"CdsExon",
+        VariantLocation::ThreePrimeUtr { .. } => b"ThreePrimeUtr",
+        VariantLocation::SpliceDonor { .. } => b"SpliceDonor",
+        VariantLocation::SpliceAcceptor { .. } => b"SpliceAcceptor",
+        VariantLocation::SpliceRegion { .. } => b"SpliceRegion",
+        VariantLocation::Intron { .. } => b"Intron",
+        VariantLocation::FrameshiftIntron { .. } => b"FrameshiftIntron",
+        VariantLocation::NonCodingExon { .. } => b"NonCodingExon",
+        VariantLocation::NonCodingIntron { .. } => b"NonCodingIntron",
+    }
+}
+
+// The signed distance or offset of a place, if document 01 says one.
+fn show_signed(rt: &impl Print, place: VariantLocation) {
+    match place {
         VariantLocation::FivePrimeUtr {
             offset_from_cds_start,
             ..
-        } => measured(rt, b"FivePrimeUtr", offset_from_cds_start),
+        } => signed(rt, offset_from_cds_start),
+        VariantLocation::ThreePrimeUtr {
+            offset_from_cds_end,
+            ..
+        } => signed(rt, offset_from_cds_end),
+        VariantLocation::SpliceRegion { distance, .. } => signed(rt, distance),
+        VariantLocation::Intron {
+            distance_to_nearest_exon,
+            ..
+        } => signed(rt, distance_to_nearest_exon),
+        VariantLocation::FrameshiftIntron {
+            distance_to_nearest_exon,
+            ..
+        } => signed(rt, distance_to_nearest_exon),
+        _ => {}
+    }
+}
+
+// The place's name with what document 01 says of it.
+pub(crate) fn show_place(rt: &impl Print, place: VariantLocation) {
+    print(rt, name_of(place));
+    match place {
+        VariantLocation::Upstream { distance } => number(rt, distance),
+        VariantLocation::Downstream { distance } => number(rt, distance),
+        VariantLocation::SpliceDonor { offset, .. } => number(rt, offset as u64),
+        VariantLocation::SpliceAcceptor { offset, .. } => number(rt, offset as u64),
         VariantLocation::CdsExon {
             cds_offset,
             codon_number,
@@ -49,27 +84,7 @@ pub(crate) fn show_place(rt: &impl Print, place: VariantLocation) {
             codon_position,
             is_splice_region,
         ),
-        VariantLocation::ThreePrimeUtr {
-            offset_from_cds_end,
-            ..
-        } => measured(rt, b"ThreePrimeUtr", offset_from_cds_end),
-        VariantLocation::SpliceDonor { offset, .. } => counted(rt, b"SpliceDonor", offset as u64),
-        VariantLocation::SpliceAcceptor { offset, .. } => counted(
-            rt,
-            b"SpliceAcceptor",
-            offset as u64,
-        ),
-        VariantLocation::SpliceRegion { distance, .. } => measured(rt, b"SpliceRegion", distance),
-        VariantLocation::Intron {
-            distance_to_nearest_exon,
-            ..
-        } => measured(rt, b"Intron", distance_to_nearest_exon),
-        VariantLocation::FrameshiftIntron {
-            distance_to_nearest_exon,
-            ..
-        } => measured(rt, b"FrameshiftIntron", distance_to_nearest_exon),
-        VariantLocation::NonCodingExon { .. } => print(rt, b"NonCodingExon"),
-        VariantLocation::NonCodingIntron { .. } => print(rt, b"NonCodingIntron"),
+        _ => show_signed(rt, place),
     }
 }
 

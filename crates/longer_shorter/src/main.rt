@@ -3,7 +3,7 @@
 // chromosome 25, where ATA reads M, AGA is a stop and TGA is none.
 #![tactic(auto)]
 
-use consequence::{Call, annotate_snv};
+use consequence::{Call, Window, annotate_snv};
 use console::print;
 use lines::write_called;
 use transcript::{CdsBounds, CdsSegments, Intervals, Strand, Transcript, TranscriptModel};
@@ -78,7 +78,12 @@ fn longer(id: u32, chromosome: u16) -> Transcript<'static> {
 
 // The line of a transcript's answer to a call on its chromosome.
 fn show(rt: &impl Print, number: u64, transcript: &Transcript, call: Call) {
-    let called = annotate_snv(call.chromosome, 100, &WINDOW, call, transcript);
+    let window = Window {
+        chromosome: call.chromosome,
+        first: 100,
+        bytes: &WINDOW,
+    };
+    let called = annotate_snv(&window, call, transcript);
     let mut out = [0u8; 256];
     if let Ok(n) = write_called(&mut out, number, transcript.model.id, called) {
         print(rt, &out[..n]);

@@ -8,6 +8,7 @@ use footprint::{
 };
 use transcript::Transcript;
 
+// The kinds and 65535 are those of the stored list.
 fn is_flank(flank: Flank, kind: u64, distance: u64) -> bool {
     match flank {
         Flank::Overlaps => kind == 0 && distance == 0,

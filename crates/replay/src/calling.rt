@@ -3,7 +3,7 @@ ghost use Rattle.std.specs.Prelude.{◌≤◌};
 
 use crate::columns::same_answer;
 use crate::numbers::{byte_at, count_at, u16_at, u32_at};
-use consequence::{Call, Called, annotate_snv};
+use consequence::{Call, Called, Window, annotate_snv};
 use transcript::Transcript;
 
 fn call_at(b: &[u8], p: usize, chromosome: u16) -> Call
@@ -37,10 +37,13 @@ pub(crate) fn is_same(b: &[u8], p: usize, at: usize, transcript: &Transcript) ->
     if to > b.len() {
         return false;
     }
+    let window = Window {
+        chromosome: u16_at(b, at) as u16,
+        first: u32_at(b, at + 4),
+        bytes: &b[from..to],
+    };
     let called = annotate_snv(
-        u16_at(b, at) as u16,
-        u32_at(b, at + 4),
-        &b[from..to],
+        &window,
         call_at(b, p, transcript.model.chromosome),
         transcript,
     );

@@ -19,6 +19,7 @@ pub(crate) struct Counts {
 }
 
 // The kind of the block whose first byte this is.
+// The bytes of the stored list.
 pub(crate) fn kind_of(byte: u8) -> Option<Kind> {
     match byte {
         0 => Some(Kind::Transcripts),
@@ -42,6 +43,7 @@ pub(crate) fn raise(counts: &mut [u64; 4], kind: Kind, n: u64, blocks: u64)
 }
 
 // What the answers of a kind are called.
+// The words that are printed; no derive prints these.
 fn name_of(kind: Kind) -> &'static [u8] {
     match kind {
         Kind::Transcripts => b"transcripts",

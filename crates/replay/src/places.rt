@@ -4,19 +4,6 @@ ghost use Rattle.std.specs.Prelude.{◌≤◌, ◌<◌};
 use crate::numbers::{byte_at, u16_at, u32_at};
 use locate::{SpliceSide, VariantLocation};
 
-// The columns of a place: its case in the order of declaration, the splice mark or the acceptor side, the exon or intron, and what
-// else the case has.
-#[derive(Drop)]
-struct PlaceRow {
-    kind: u64,
-    mark: bool,
-    index: u64,
-    distance: i64,
-    segment: u64,
-    position: u64,
-    number: u64,
-}
-
 // A four-byte number with its sign.
 fn signed_of(x: u64) -> i64
     requires { x < 4294967296 }
@@ -29,83 +16,111 @@ fn bounded(x: u64) -> i64 {
     i32::try_from(x).map_or(-1, i64::from)
 }
 
-fn row(kind: u64, index: u16, mark: bool, distance: i64) -> PlaceRow {
-    PlaceRow {
-        kind,
-        mark,
-        index: u64::from(index),
-        distance,
-        segment: 0,
-        position: 0,
-        number: 0,
+// The case, in the order of declaration.
+// Numbers of the stored list: an enum whose cases hold fields is not cast.
+fn kind_of(place: VariantLocation) -> u64 {
+    match place {
+        VariantLocation::Upstream { .. } => 0,
+        VariantLocation::Downstream { .. } => 1,
+        VariantLocation::Distal => 2,
+        VariantLocation::FivePrimeUtr { .. } => 3,
+        VariantLocation::CdsExon { .. } => 4,
+        VariantLocation::ThreePrimeUtr { .. } => 5,
+        VariantLocation::SpliceDonor { .. } => 6,
+        VariantLocation::SpliceAcceptor { .. } => 7,
+        VariantLocation::SpliceRegion { .. } => 8,
+        VariantLocation::Intron { .. } => 9,
+        VariantLocation::FrameshiftIntron { .. } => 10,
+        VariantLocation::NonCodingExon { .. } => 11,
+        VariantLocation::NonCodingIntron { .. } => 12,
     }
 }
 
-fn row_of(place: VariantLocation) -> PlaceRow {
+// The splice mark of an exon base; of a splice region whether its side is the acceptor's.
+// One column of the list, which lies in other fields from case to case; so the next two.
+fn mark_of(place: VariantLocation) -> bool {
     match place {
-        VariantLocation::Upstream { distance } => row(0, 0, false, bounded(distance)),
-        VariantLocation::Downstream { distance } => row(1, 0, false, bounded(distance)),
-        VariantLocation::Distal => row(2, 0, false, 0),
         VariantLocation::FivePrimeUtr {
-            exon_index,
+            is_splice_region,
+            ..
+        }
+        | VariantLocation::CdsExon {
+            is_splice_region,
+            ..
+        }
+        | VariantLocation::ThreePrimeUtr {
+            is_splice_region,
+            ..
+        }
+        | VariantLocation::NonCodingExon {
+            is_splice_region,
+            ..
+        } => is_splice_region,
+        VariantLocation::SpliceRegion { side, .. } => matches!(side, SpliceSide::Acceptor),
+        _ => false,
+    }
+}
+
+// The exon or the intron.
+fn index_of(place: VariantLocation) -> u16 {
+    match place {
+        VariantLocation::FivePrimeUtr { exon_index, .. }
+        | VariantLocation::CdsExon { exon_index, .. }
+        | VariantLocation::ThreePrimeUtr { exon_index, .. }
+        | VariantLocation::NonCodingExon { exon_index, .. } => exon_index,
+        VariantLocation::SpliceDonor { intron_index, .. }
+        | VariantLocation::SpliceAcceptor { intron_index, .. }
+        | VariantLocation::SpliceRegion { intron_index, .. }
+        | VariantLocation::Intron { intron_index, .. }
+        | VariantLocation::FrameshiftIntron { intron_index, .. }
+        | VariantLocation::NonCodingIntron { intron_index, .. } => intron_index,
+        _ => 0,
+    }
+}
+
+// The distance or the offset.
+fn distance_of(place: VariantLocation) -> i64 {
+    match place {
+        VariantLocation::Upstream { distance } => bounded(distance),
+        VariantLocation::Downstream { distance } => bounded(distance),
+        VariantLocation::FivePrimeUtr {
             offset_from_cds_start,
-            is_splice_region,
-        } => row(3, exon_index, is_splice_region, offset_from_cds_start),
-        VariantLocation::CdsExon {
-            exon_index,
-            cds_segment_index,
-            cds_offset,
-            codon_number,
-            codon_position,
-            is_splice_region,
-        } => PlaceRow {
-            kind: 4,
-            mark: is_splice_region,
-            index: u64::from(exon_index),
-            distance: bounded(u64::from(cds_offset.0)),
-            segment: u64::from(cds_segment_index),
-            position: u64::from(codon_position),
-            number: u64::from(codon_number),
-        },
+            ..
+        } => offset_from_cds_start,
+        VariantLocation::CdsExon { cds_offset, .. } => bounded(u64::from(cds_offset.0)),
         VariantLocation::ThreePrimeUtr {
-            exon_index,
             offset_from_cds_end,
-            is_splice_region,
-        } => row(5, exon_index, is_splice_region, offset_from_cds_end),
-        VariantLocation::SpliceDonor {
-            intron_index,
-            offset,
-        } => row(6, intron_index, false, bounded(u64::from(offset))),
-        VariantLocation::SpliceAcceptor {
-            intron_index,
-            offset,
-        } => row(7, intron_index, false, bounded(u64::from(offset))),
-        VariantLocation::SpliceRegion {
-            intron_index,
-            side,
-            distance,
-        } => row(
-            8,
-            intron_index,
-            matches!(side, SpliceSide::Acceptor),
-            distance,
-        ),
+            ..
+        } => offset_from_cds_end,
+        VariantLocation::SpliceDonor { offset, .. } => bounded(u64::from(offset)),
+        VariantLocation::SpliceAcceptor { offset, .. } => bounded(u64::from(offset)),
+        VariantLocation::SpliceRegion { distance, .. } => distance,
         VariantLocation::Intron {
-            intron_index,
             distance_to_nearest_exon,
-        } => row(9, intron_index, false, distance_to_nearest_exon),
+            ..
+        } => distance_to_nearest_exon,
         VariantLocation::FrameshiftIntron {
-            intron_index,
             distance_to_nearest_exon,
-        } => row(10, intron_index, false, distance_to_nearest_exon),
-        VariantLocation::NonCodingExon {
-            exon_index,
-            is_splice_region,
-        } => row(11, exon_index, is_splice_region, 0),
+            ..
+        } => distance_to_nearest_exon,
         VariantLocation::NonCodingIntron {
-            intron_index,
             distance_to_nearest_exon,
-        } => row(12, intron_index, false, distance_to_nearest_exon),
+            ..
+        } => distance_to_nearest_exon,
+        VariantLocation::Distal | VariantLocation::NonCodingExon { .. } => 0,
+    }
+}
+
+// The segment, the position in the codon and the codon's number of a coding base, zeros of any other.
+fn coding_of(place: VariantLocation) -> (u16, u8, u32) {
+    match place {
+        VariantLocation::CdsExon {
+            cds_segment_index,
+            codon_position,
+            codon_number,
+            ..
+        } => (cds_segment_index, codon_position, codon_number),
+        _ => (0, 0, 0),
     }
 }
 
@@ -113,12 +128,12 @@ fn row_of(place: VariantLocation) -> PlaceRow {
 pub(crate) fn same_place(b: &[u8], at: usize, place: VariantLocation) -> bool
     requires { at ≤ 800000 }
 {
-    let r = row_of(place);
-    r.kind == byte_at(b, at)
-        && r.mark == (byte_at(b, at + 1) == 1)
-        && r.index == u16_at(b, at + 2)
-        && r.segment == u16_at(b, at + 4)
-        && r.position == byte_at(b, at + 6)
-        && r.number == u32_at(b, at + 12)
-        && r.distance == signed_of(u32_at(b, at + 8))
+    let (segment, position, number) = coding_of(place);
+    kind_of(place) == byte_at(b, at)
+        && mark_of(place) == (byte_at(b, at + 1) == 1)
+        && u64::from(index_of(place)) == u16_at(b, at + 2)
+        && u64::from(segment) == u16_at(b, at + 4)
+        && u64::from(position) == byte_at(b, at + 6)
+        && u64::from(number) == u32_at(b, at + 12)
+        && distance_of(place) == signed_of(u32_at(b, at + 8))
 }

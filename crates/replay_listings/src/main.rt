@@ -38,6 +38,7 @@ fn next_case(rt: &impl Print, input: &mut impl Read, number: u64) -> Option<Outc
 }
 
 // Goes up to the list's end; the bound on the cases, which no list reaches, is one on the counts.
+// The number of cases is printed behind the loop.
 fn replay_all(rt: &impl Print, input: &mut impl Read) {
     let mut cases: u64 = 0;
     let mut bytes: u64 = 0;
