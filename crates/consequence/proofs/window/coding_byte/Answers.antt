@@ -1,4 +1,0 @@
-use Rattle.consequence.proofs.window.coding_byte.Goals as goal
-
-pub returns-in-Minus : goal.returns-in-Minus
-returns-in-Minus c = rw c.in-Minus.is c.complement.ensures
