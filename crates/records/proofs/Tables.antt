@@ -1,6 +1,6 @@
 -- A table of records, cut at their number, is the records; over 512 of them are refusal 1.
 -- Assumes nothing.
-use Rattle.std.specs.Prelude.{Err}
+use Rattle.std.specs.Prelude.{Result, Ok, Err}
 use Rattle.common.specs.declared.refusal.Refusal.{Refusal}
 use Rattle.common.specs.Refusal.{outcome}
 use Prim.Native.Nat.{ℕ, zero, suc, ◌+◌, ◌-◌, ◌≤◌, ◌<◌}
@@ -14,7 +14,9 @@ use borrow.Author.Tests.{lt-ltb, ne_eqb, eq-eqb}
 use Rattle.common.proofs.Filling.{front, front_step}
 use Rattle.transcript.specs.declared.TranscriptModel.{TranscriptModel}
 use Rattle.transcript.specs.declared.Exon.{Exon}
-use Rattle.transcript.specs.Transcript.{Transcript, exons_of, lent}
+use Rattle.transcript.specs.declared.CdsSegments.{CdsSegments}
+use Rattle.transcript.specs.declared.Transcript.{Transcript as Lent}
+use Rattle.transcript.specs.Transcript.{Transcript, exons_of, lent, transcript_of}
 use Rattle.transcript.specs.Admission.{bad_counts, admission}
 use Rattle.footprint.specs.Ranges.{source_ranges}
 use Rattle.locate.specs.Query.{locate_variant}
@@ -23,8 +25,8 @@ use Rattle.consequence.specs.Window.{Window}
 use Rattle.consequence.specs.Call.{annotate_snv}
 use Rattle.consequence.specs.declared.Call.{Call}
 use Rattle.consequence.proofs.Calling.{not_admitted}
-use Rattle.records.specs.Records.{even_segments, lent_records}
-use Rattle.records.specs.code.Table.{exon_starts_of, exon_ends_of, Tabled}
+use Rattle.records.specs.Records.{even_segments, lent_records, records_lent}
+use Rattle.records.specs.code.Table.{exon_starts_of, exon_ends_of, Tabled, LentOn}
 use Rattle.records.specs.declared.ExonTable.{ExonTable}
 
 -- one number of each record, copied to an array of 512 one after the other
@@ -78,19 +80,22 @@ module _ (m : TranscriptModel) (xs : List Exon) (ps is ss es bs : List ℕ) wher
   unfolding admission
   too_many h = rw (many_or_none (even_segments ps is ss es) h)
 
+  refused : {A : Type 0} (x : A) (n : ℕ) → n ≡ admission records → 1 ≡ admission records → outcome n x ≡ Err Refusal.Counts
+  refused x n q h = rw (q, sym h)
+
+  pub place_refused : (c s e : ℕ) → 1 ≡ admission records → Err Refusal.Counts ≡ locate_variant source_ranges records c s e
+  place_refused c s e h = is_refused_lem source_ranges records c s e (outcome (admission records) tt) Refusal.Counts refl (refused tt (admission records) refl h)
+
+  pub call_refused : (w : Window) (q : Call) → 1 ≡ admission records → Err Refusal.Counts ≡ annotate_snv source_ranges records w q
+  call_refused w q h = not_admitted source_ranges records w q Refusal.Counts (refused tt (admission records) refl h)
+
   module _ (t : ExonTable) (k : Tabled xs t) where
     -- over 512 records are refusal 1
-    counted_many : 512 < t.count → 512 < length xs
-    counted_many h = let e = k.counted in omega arith
-
-    refused : {A : Type 0} (x : A) (n : ℕ) → n ≡ admission records → 512 < t.count → outcome n x ≡ Err Refusal.Counts
-    refused x n q h = rw (q, sym (too_many (counted_many h)))
-
-    pub place_refused : (c s e : ℕ) → 512 < t.count → Err Refusal.Counts ≡ locate_variant source_ranges records c s e
-    place_refused c s e h = is_refused_lem source_ranges records c s e (outcome (admission records) tt) Refusal.Counts refl (refused tt (admission records) refl h)
-
-    pub call_refused : (w : Window) (q : Call) → 512 < t.count → Err Refusal.Counts ≡ annotate_snv source_ranges records w q
-    call_refused w q h = not_admitted source_ranges records w q Refusal.Counts (refused tt (admission records) refl h)
+    pub counted_many : 512 < t.count → 1 ≡ admission records
+    counted_many h =
+        let e = k.counted in
+        let l : 512 < length xs = omega arith in
+        too_many l
 
     -- the table's front is the records
     pub table_lent : t.count ≤ 512 → lent m (take t.count t.starts) (take t.count t.ends) ps is ss es bs ≡ records
@@ -98,3 +103,11 @@ module _ (m : TranscriptModel) (xs : List Exon) (ps is ss es bs : List ℕ) wher
         let e = k.counted in
         let l : length xs ≤ 512 = omega arith in
         rw (k.counted, k.starting l, k.ending l) records_lent_lem
+
+-- what is lent or refused, taken from the answer
+module _ (m : TranscriptModel) (t : ExonTable) (g : CdsSegments) (bs : List ℕ) (r : Result Lent Refusal) (l : LentOn m t g bs r) where
+  pub lent_is : (x : Lent) → r ≡ Ok x → (xs : List Exon) → Tabled xs t → transcript_of x ≡ records_lent m xs g bs
+  lent_is x e = subst (λ (a : Result Lent Refusal). LentOn m t g bs a) e l
+
+  pub refused_is : (f : Refusal) → r ≡ Err f → (f ≡ Refusal.Counts) × ((xs : List Exon) → Tabled xs t → 1 ≡ admission (records_lent m xs g bs))
+  refused_is f e = subst (λ (a : Result Lent Refusal). LentOn m t g bs a) e l

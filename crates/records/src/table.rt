@@ -1,8 +1,9 @@
-// The table of lent exon records.
-ghost use Rattle.records.specs.code.Table.{Tabled};
+// The table of lent exon records, and the transcript on it.
+ghost use Rattle.records.specs.code.Table.{Tabled, LentOn};
 
 use super::ExonTable;
-use transcript::Exon;
+use common::refusal::Refusal;
+use transcript::{CdsSegments, Exon, Intervals, Transcript, TranscriptModel};
 
 // The records' number, and the starts and ends of up to 512. Of a longer list none is copied.
 pub(crate) fn table_of(exons: &[Exon]) -> ExonTable
@@ -22,4 +23,28 @@ pub(crate) fn table_of(exons: &[Exon]) -> ExonTable
         starts,
         ends,
     }
+}
+
+// The transcript on the records of a table; over 512 records are refusal 1.
+pub(crate) fn transcript_on<'a>(
+    model: TranscriptModel,
+    table: &'a ExonTable,
+    segments: CdsSegments<'a>,
+    selenocysteine: &'a [u64],
+) -> Result<Transcript<'a>, Refusal>
+    ensures { LentOn model table.now segments.entry selenocysteine.now result }
+{
+    let n = table.count;
+    if 512 < n {
+        return Err(Refusal::Counts);
+    }
+    Ok(Transcript {
+        model,
+        exons: Intervals {
+            starts: &table.starts[..n],
+            ends: &table.ends[..n],
+        },
+        segments,
+        selenocysteine,
+    })
 }

@@ -1,27 +1,27 @@
 // Blocks of a list on standard input: a length of four bytes, then so many bytes.
-ghost use Rattle.std.specs.Prelude.{◌≤◌, ◌≡◌, length};
+ghost use Rattle.std.specs.Prelude.{◌<◌, ◌≤◌, ◌≡◌, IfSome, None, length};
 
 use crate::numbers::u32_at;
 use console::{print, read_full};
 use std::io::Read;
 
-// The length of a block that cannot be judged: 0, and it is written.
-fn cut_off(rt: &impl Print) -> usize
-    ensures { result ≡ 0 }
+// No block: one that cannot be judged, which is written.
+fn cut_off(rt: &impl Print) -> Option<usize>
+    ensures { result ≡ None }
 {
     print(rt, b"a block is not whole or too long\n");
-    0
+    None
 }
 
-// Reads the next block to the front of `block`, and gives its length, 0 where there is none.
-pub(crate) fn next_block(rt: &impl Print, input: &mut impl Read, block: &mut [u8]) -> usize
+// Reads the next block to the front of `block`, and gives its length.
+pub(crate) fn next_block(rt: &impl Print, input: &mut impl Read, block: &mut [u8]) -> Option<usize>
     requires { length block.old ≡ 65536 }
-    ensures { (result ≤ 65536) × (length block.new ≡ 65536) }
+    ensures { (IfSome result (λ n. (0 < n) × (n ≤ 65536))) × (length block.new ≡ 65536) }
 {
     let mut size = [0u8; 4];
     let got = read_full(input, &mut size);
     if got == 0 {
-        return 0;
+        return None;
     }
     if got < 4 {
         return cut_off(rt);
@@ -33,5 +33,5 @@ pub(crate) fn next_block(rt: &impl Print, input: &mut impl Read, block: &mut [u8
     if read_full(input, &mut block[..n]) != n {
         return cut_off(rt);
     }
-    n
+    Some(n)
 }

@@ -28,10 +28,9 @@ fn judge_all(rt: &impl Print, input: &mut impl Read) {
     let mut compared = [0u64; 4];
     let mut different = [0u64; 4];
     for blocks in 0..1_000_000_000 {
-        let n = next_block(rt, input, &mut block);
-        if n == 0 {
+        let Some(n) = next_block(rt, input, &mut block) else {
             break;
-        }
+        };
         let Some(kind) = kind_of(block[0]) else {
             print(rt, b"a block is of an unknown kind\n");
             continue;

@@ -1,5 +1,7 @@
-// Little-endian numbers in lent bytes. What lies past their end is 0.
+// Little-endian numbers in lent bytes, widened. What lies past their end is 0.
 ghost use Rattle.std.specs.Prelude.{◌≤◌, ◌<◌};
+
+use common::little;
 
 pub(crate) fn byte_at(b: &[u8], i: usize) -> u64
     ensures { result < 256 }
@@ -8,22 +10,19 @@ pub(crate) fn byte_at(b: &[u8], i: usize) -> u64
 }
 
 pub(crate) fn u16_at(b: &[u8], i: usize) -> u64
-    requires { i < 1000000 }
     ensures { result < 65536 }
 {
-    byte_at(b, i) + 256 * byte_at(b, i + 1)
+    u64::from(little::u16_at(b, i))
 }
 
 pub(crate) fn u32_at(b: &[u8], i: usize) -> u64
-    requires { i < 900000 }
     ensures { result < 4294967296 }
 {
-    u16_at(b, i) + 65536 * u16_at(b, i + 2)
+    u64::from(little::u32_at(b, i))
 }
 
 // The number at i, or `most` where it is larger.
 pub(crate) fn count_at(b: &[u8], i: usize, most: u64) -> u64
-    requires { i < 900000 }
     ensures { result ≤ most }
 {
     u32_at(b, i).min(most)

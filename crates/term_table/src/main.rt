@@ -21,23 +21,19 @@ fn tail_byte(rank: u32, i: usize) -> u8 {
     name_byte(rank, i - 2)
 }
 
-// The byte at i of the line of a rank.
-fn line_byte(rank: u32, i: usize) -> u8
-    requires { rank < 100 }
-{
+// The byte at i of the line of a rank below 100.
+fn line_byte(rank: u32, i: usize) -> u8 {
     if rank < 10 {
         return tail_byte(rank, i);
     }
     if i == 0 {
-        return b'0' + (rank / 10) as u8;
+        return b'0' + (rank / 10 % 10) as u8;
     }
     tail_byte(rank, i - 1)
 }
 
 // Whether the bytes begin the line of a rank.
-fn begins_line(row: &[u8], rank: u32) -> bool
-    requires { rank < 100 }
-{
+fn begins_line(row: &[u8], rank: u32) -> bool {
     for (i, b) in row.iter().enumerate() {
         if *b != line_byte(rank, i) {
             return false;
@@ -47,9 +43,7 @@ fn begins_line(row: &[u8], rank: u32) -> bool
 }
 
 // Whether the row is the line of a rank that has a name: its newline ends it.
-fn is_line(row: &[u8], rank: u32) -> bool
-    requires { rank < 100 }
-{
+fn is_line(row: &[u8], rank: u32) -> bool {
     row.ends_with(b"\n") && name_length(rank) != 0 && begins_line(row, rank)
 }
 
@@ -65,7 +59,6 @@ fn report(rt: &impl Print, what: &[u8], rank: u32) -> u64
 
 // 1 where the row is not the line of the rank, which is then written, else 0.
 fn row_differs(rt: &impl Print, row: &[u8], rank: u32) -> u64
-    requires { rank < 100 }
     ensures { result ≤ 1 }
 {
     if is_line(row, rank) {

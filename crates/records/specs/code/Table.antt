@@ -1,17 +1,12 @@
 -- The table that the code makes of exon records.
-use Rattle.std.specs.Prelude.{ℕ, ◌≤◌, ◌≡◌, List, map, length, take, Result}
+use Rattle.std.specs.Prelude.{ℕ, ◌≤◌, ◌≡◌, List, map, length, take, Result, Ok, Err}
 use Rattle.common.specs.declared.refusal.Refusal.{Refusal}
 use Rattle.transcript.specs.declared.Exon.{Exon}
 use Rattle.transcript.specs.declared.TranscriptModel.{TranscriptModel}
 use Rattle.transcript.specs.declared.CdsSegments.{CdsSegments}
-use Rattle.transcript.specs.Transcript.{Transcript}
-use Rattle.footprint.specs.Ranges.{source_ranges}
-use Rattle.locate.specs.declared.VariantLocation.{VariantLocation}
-use Rattle.locate.specs.Query.{locate_variant}
-use Rattle.consequence.specs.declared.Call.{Call}
-use Rattle.consequence.specs.Called.{Called}
-use Rattle.consequence.specs.Window.{Window}
-use Rattle.consequence.specs.Call.{annotate_snv}
+use Rattle.transcript.specs.declared.Transcript.{Transcript as Lent}
+use Rattle.transcript.specs.Transcript.{transcript_of}
+use Rattle.transcript.specs.Admission.{admission}
 use Rattle.records.specs.Records.{records_lent}
 use Rattle.records.specs.declared.ExonTable.{ExonTable}
 
@@ -27,13 +22,8 @@ pub record Tabled (xs : List Exon) (t : ExonTable) : Type 0 where
   pub starting : length xs ≤ 512 → take (length xs) t.starts ≡ exon_starts_of xs
   pub ending : length xs ≤ 512 → take (length xs) t.ends ≡ exon_ends_of xs
 
--- the answer to a question about a transcript, on whatever records the table was made of
-abbrev pub OnRecords : {A : Type 0} → (Transcript → A) → TranscriptModel → ExonTable → CdsSegments → List ℕ → A → Type 0
-OnRecords ask m table segments bases r = (xs : List Exon) → Tabled xs table → r ≡ ask (records_lent m xs segments bases)
-
--- the place, as `locate_variant` answers it, and the call, as `annotate_snv` does
-abbrev pub place_asked : ℕ → ℕ → ℕ → Transcript → Result VariantLocation Refusal
-place_asked chromosome s e t = locate_variant source_ranges t chromosome s e
-
-abbrev pub call_asked : Window → Call → Transcript → Called
-call_asked w q t = annotate_snv source_ranges t w q
+-- the transcript that is lent is that of whatever records the table was made of, and where none is, these are refused: refusal 1
+abbrev pub LentOn : TranscriptModel → ExonTable → CdsSegments → List ℕ → Result Lent Refusal → Type 0
+LentOn m table segments bases (Ok t) = (xs : List Exon) → Tabled xs table → transcript_of t ≡ records_lent m xs segments bases
+LentOn m table segments bases (Err r) =
+    (r ≡ Refusal.Counts) × ((xs : List Exon) → Tabled xs table → 1 ≡ admission (records_lent m xs segments bases))
