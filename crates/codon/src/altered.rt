@@ -49,7 +49,9 @@ pub struct AllLetters {
 }
 
 // A constant is laid out wherever it is read: who asks for many letters asks once for these, and lends the part of a code.
-pub fn altered_letters() -> AllLetters {
+pub fn altered_letters() -> AllLetters
+    ensures { BothLetters result.bytes }
+{
     AllLetters {
         bytes: ALTERED_LETTERS,
     }
