@@ -28,7 +28,7 @@ EAGVDAGVEAGVDAGVEAGVDAGVEAGVDAGVEAGVDAGVEAGVDAGVEAGVDAGVEAGVDAGV*SWLYSCF*SWLYSCF
 QHQHQHQHQHQHQHQHPPPPPPPPPPPPPPPPRRRRRRRRRRRRRRRRLLLLLLLLLLLLLLLLEDEDEDEDEDEDEDEDAAAAAAAAAAAAAAAA\
 GGGGGGGGGGGGGGGGVVVVVVVVVVVVVVVV*Y*Y*Y*Y*Y*Y*Y*YSSSSSSSSSSSSSSSSWCWCWCWCWCWCWCWCLFLFLFLFLFLFLFLF";
 
-// The codon with the base at a place, 0 to 2, replaced; at another place none is.
+// The codon with the base at a place, 0 to 2, replaced; at another place none is. Codon, place and base are the Rust's parameters.
 #[tactic(auto, unfolding(crate::specs::Table::build_alt_codon))]
 pub fn build_alt_codon(c: Codon, place: u8, b: u8) -> Codon
     ensures { result ≡ build_alt_codon c place b }
@@ -75,7 +75,8 @@ pub fn letters_of(both: &AllLetters, code: GeneticCode) -> CodeLetters
     }
 }
 
-// The entry of a codon's place, a place in the codon and a base number.
+// The entry of a codon's place, a place in the codon and a base number. A place is a u8, as in the Rust: a type of three cases would be
+// made of it at each call.
 pub(crate) fn altered_letter(letters: CodeLetters, codon: u8, place: u8, base: u8) -> u8
     requires { (codon < 64) × (place < 3) × (base < 4) }
     ensures { (table : List ℕ)

@@ -22,7 +22,7 @@ fn two_bits(b: u8) -> u8
 pub fn base_number(b: u8) -> Option<u8>
     ensures { result ≡ base_number b }
 {
-    if is_base(b) { Some(two_bits(b)) } else { None }
+    is_base(b).then_some(two_bits(b))
 }
 
 // A and T, C and G are exchanged; every other byte stays. Tests one after the other become conditional moves, a `match` a jump that random

@@ -23,6 +23,7 @@ pub enum GeneticCode {
 }
 
 // The bases of one codon in coding order: three, or the one or two of an unfinished last codon. A base that is not there is 0.
+// Fixed memory: three fields and how many are there, no Vec.
 #[derive(Clone, Copy, PartialEq, Eq, Debug)]
 pub struct Codon {
     pub len: u8,

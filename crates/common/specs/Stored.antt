@@ -3,11 +3,11 @@ use Rattle.std.specs.Prelude.{ℕ, ◌+◌, ◌-◌, ◌≡◌, List, ◌++◌, 
 use Rattle.std.proofs.lemmas.List.Edits.{sets}
 
 -- the buffer with the text stored from a position on, as far as it reaches: `sets` of lib.Seq, an element at a time
-abbrev pub stored : List ℕ → ℕ → List ℕ → List ℕ
+abbrev pub stored : {A : Type 0} → List A → ℕ → List A → List A
 stored buffer at text = sets buffer at text
 
 -- the text is stored, and the position is behind it
-pub record Pushed (buffer : List ℕ) (at : ℕ) (text after : List ℕ) (to : ℕ) : Type 0 where
+pub record Pushed {A : Type 0} (buffer : List A) (at : ℕ) (text after : List A) (to : ℕ) : Type 0 where
   pub bytes : after ≡ stored buffer at text
   pub behind : to ≡ at + length text
 

@@ -10,11 +10,11 @@ use crate::columns::{
 use crate::line::push_number;
 use crate::places::place_name;
 use common::refusal::Refusal;
-use common::text::{push_byte, push_bytes};
+use common::text::{push, push_bytes};
 use consequence::ConsequenceResult;
 use locate::VariantLocation;
 
-// Line number, id, 0 and place, a space behind each.
+// Line number, id, 0 and place, a space behind each. Number and id are no struct: each is printed once, in a column of its own.
 fn push_front(out: &mut [u8], number: u64, id: u64, place: VariantLocation) -> usize
     ensures pushed { Pushed out.old 0 (front_columns number id place) out.new result }
     ensures upper_bound { result ≤ 100 }
@@ -23,7 +23,7 @@ fn push_front(out: &mut [u8], number: u64, id: u64, place: VariantLocation) -> u
     let b = push_number(out, a, id, 32);
     let c = push_number(out, b, 0, 32);
     let d = push_bytes(out, c, place_name(place));
-    push_byte(out, d, 32)
+    push(out, d, 32)
 }
 
 // Exon, intron, CDS position, cDNA position and codon number, a space behind each.
@@ -38,15 +38,15 @@ fn push_numbers(out: &mut [u8], at: usize, x: ConsequenceResult) -> usize
     let cdna = x.cdna_position;
     let protein = x.protein_start;
     let a = push_numbered(out, at, exon);
-    let b = push_byte(out, a, 32);
+    let b = push(out, a, 32);
     let c = push_numbered(out, b, intron);
-    let d = push_byte(out, c, 32);
+    let d = push(out, c, 32);
     let e = push_counted(out, d, cds);
-    let f = push_byte(out, e, 32);
+    let f = push(out, e, 32);
     let g = push_cdna(out, f, cdna);
-    let h = push_byte(out, g, 32);
+    let h = push(out, g, 32);
     let i = push_counted(out, h, protein);
-    push_byte(out, i, 32)
+    push(out, i, 32)
 }
 
 // Codons, letters and terms, with the newline.
@@ -59,11 +59,11 @@ fn push_back(out: &mut [u8], at: usize, x: ConsequenceResult) -> usize
     let letters = x.amino_acids;
     let set = x.consequences;
     let a = push_codons(out, at, codons);
-    let b = push_byte(out, a, 32);
+    let b = push(out, a, 32);
     let c = push_letters(out, b, letters);
-    let d = push_byte(out, c, 32);
+    let d = push(out, c, 32);
     let e = push_terms(out, d, set);
-    push_byte(out, e, 10)
+    push(out, e, 10)
 }
 
 // The line of an answered call at the buffer's start, as far as that reaches; the line's length.

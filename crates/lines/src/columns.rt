@@ -1,4 +1,4 @@
-// The columns of an answered call, put into a lent buffer.
+// The columns of an answered call, put into a lent buffer. Buffer and position apart, as in common.
 ghost use Rattle.std.specs.Prelude.{◌≡◌, [], ◌∷◌, ◌+◌, ◌≤◌, ◌<◌, ◌^◌};
 ghost use Rattle.common.specs.Text.{byte};
 ghost use Rattle.common.specs.Stored.{Pushed};
@@ -8,7 +8,7 @@ ghost use Rattle.consequence.specs.Answer.{cdna_count};
 ghost use Rattle.lines.specs.Line.{numbered, counted, term_list};
 
 use codon::{AminoAcids, Codon, Codons};
-use common::text::{push_byte, push_decimal};
+use common::text::{push, push_decimal};
 use consequence::{Numbered, cdna_count};
 use locate::CdnaPosition;
 use names::push_name;
@@ -21,10 +21,10 @@ pub(crate) fn push_numbered(out: &mut [u8], at: usize, n: Option<Numbered>) -> u
     ensures upper_bound { result ≤ at + 41 }
 {
     match n {
-        None => push_byte(out, at, b'-'),
+        None => push(out, at, b'-'),
         Some(n) => {
             let slash = push_decimal(out, at, n.number as u64);
-            let after = push_byte(out, slash, b'/');
+            let after = push(out, slash, b'/');
             push_decimal(out, after, n.total as u64)
         }
     }
@@ -37,7 +37,7 @@ pub(crate) fn push_counted(out: &mut [u8], at: usize, n: Option<u32>) -> usize
     ensures upper_bound { result ≤ at + 20 }
 {
     match n {
-        None => push_byte(out, at, b'-'),
+        None => push(out, at, b'-'),
         Some(k) => push_decimal(out, at, k as u64),
     }
 }
@@ -56,7 +56,7 @@ fn push_shown(out: &mut [u8], at: usize, place: u8, i: u8, b: u8) -> usize
     requires { at + 1 < 2 ^ 64 }
     ensures { Pushed out.old at (shown place i b ∷ []) out.new result }
 {
-    push_byte(
+    push(
         out,
         at,
         if i == place {
@@ -92,10 +92,10 @@ pub(crate) fn push_codons(out: &mut [u8], at: usize, c: Option<Codons>) -> usize
     ensures upper_bound { result ≤ at + 7 }
 {
     match c {
-        None => push_byte(out, at, b'-'),
+        None => push(out, at, b'-'),
         Some(c) => {
             let slash = push_codon(out, at, c.reference, c.place);
-            let after = push_byte(out, slash, b'/');
+            let after = push(out, slash, b'/');
             push_codon(out, after, c.altered, c.place)
         }
     }
@@ -108,12 +108,12 @@ pub(crate) fn push_letters(out: &mut [u8], at: usize, a: Option<AminoAcids>) -> 
     ensures upper_bound { result ≤ at + 3 }
 {
     match a {
-        None => push_byte(out, at, b'-'),
-        Some(AminoAcids::One(x)) => push_byte(out, at, x),
+        None => push(out, at, b'-'),
+        Some(AminoAcids::One(x)) => push(out, at, x),
         Some(AminoAcids::Change(x, y)) => {
-            let slash = push_byte(out, at, x);
-            let after = push_byte(out, slash, b'/');
-            push_byte(out, after, y)
+            let slash = push(out, at, x);
+            let after = push(out, slash, b'/');
+            push(out, after, y)
         }
     }
 }
@@ -123,7 +123,7 @@ fn push_next(out: &mut [u8], at: usize, rank: u32) -> usize
     requires { at + 65 < 2 ^ 64 }
     ensures { Pushed out.old at (byte "," ∷ term_name rank) out.new result }
 {
-    let to = push_byte(out, at, b',');
+    let to = push(out, at, b',');
     push_name(out, to, rank)
 }
 
@@ -135,7 +135,7 @@ pub(crate) fn push_terms(out: &mut [u8], at: usize, set: TermSet) -> usize
 {
     let mut ranks = set.ranks();
     let Some(first) = ranks.next() else {
-        return push_byte(out, at, b'-');
+        return push(out, at, b'-');
     };
     let mut to = push_name(out, at, first);
     for rank in ranks {

@@ -8,3 +8,4 @@ pub mod line;
 mod places;
 
 pub use called::write_called;
+pub use places::place_name;

@@ -5,7 +5,7 @@ ghost use Rattle.common.specs.Stored.{Pushed};
 ghost use Rattle.lines.specs.Line.{refusal_line, write_answer, written_to};
 
 use common::refusal::Refusal;
-use common::text::{push_byte, push_decimal};
+use common::text::{push, push_decimal};
 
 // A number and the byte behind it.
 pub(crate) fn push_number(out: &mut [u8], at: usize, n: u64, end: u8) -> usize
@@ -14,7 +14,7 @@ pub(crate) fn push_number(out: &mut [u8], at: usize, n: u64, end: u8) -> usize
     ensures upper_bound { result ≤ at + 21 }
 {
     let to = push_decimal(out, at, n);
-    push_byte(out, to, end)
+    push(out, to, end)
 }
 
 // The line of a refusal at the buffer's start, as far as that reaches; the line's length.

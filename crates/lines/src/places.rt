@@ -6,7 +6,7 @@ use locate::VariantLocation;
 
 // The Rust name of a place.
 // By match: cases with fields are not cast to a place in a table.
-pub(crate) fn place_name(place: VariantLocation) -> &'static [u8]
+pub fn place_name(place: VariantLocation) -> &'static [u8]
     ensures name { result.now ≡ place_name place }
     ensures upper_bound { length result.now ≤ 16 }
 {

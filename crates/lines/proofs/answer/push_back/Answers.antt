@@ -7,9 +7,9 @@ pub returns : goal.returns
 unfolding back_columns
 returns c =
     let k = c.push_codons-a.ensures.upper_bound in
-    let l = c.push_byte-b.ensures.behind in
+    let l = c.push-b.ensures.behind in
     let m = c.push_letters-c.ensures.upper_bound in
-    let n = c.push_byte-d.ensures.behind in
+    let n = c.push-d.ensures.behind in
     let t = c.push_terms-e.ensures.upper_bound in
-    let u = c.push_byte.ensures.behind in
-    record { pushed = pushed_on c.push_codons-a.ensures.pushed (pushed_on c.push_byte-b.ensures (pushed_on c.push_letters-c.ensures.pushed (pushed_on c.push_byte-d.ensures (pushed_on c.push_terms-e.ensures.pushed c.push_byte.ensures)))); upper_bound = omega arith }
+    let u = c.push.ensures.behind in
+    record { pushed = pushed_on c.push_codons-a.ensures.pushed (pushed_on c.push-b.ensures (pushed_on c.push_letters-c.ensures.pushed (pushed_on c.push-d.ensures (pushed_on c.push_terms-e.ensures.pushed c.push.ensures)))); upper_bound = omega arith }

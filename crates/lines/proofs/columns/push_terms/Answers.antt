@@ -12,7 +12,7 @@ use Rattle.lines.proofs.columns.push_terms.Goals.{In-None}
 
 pub returns-in_default-clause-pushed : goal.returns-in_default-clause-pushed
 returns-in_default-clause-pushed c =
-    rw (no_terms c.args.set.0 (ap ranks (sym c.ranks-ranks.ensures) ∙ c.in_default.ensures.steps.0)) c.push_byte.ensures
+    rw (no_terms c.args.set.0 (ap ranks (sym c.ranks-ranks.ensures) ∙ c.in_default.ensures.steps.0)) c.push.ensures
 
 pub push_next-to-requires : goal.push_next-to-requires
 push_next-to-requires c =
