@@ -15,10 +15,11 @@ use Rattle.common.proofs.Lists.{any_none}
 use Rattle.transcript.specs.declared.Strand.{Strand}
 use Rattle.transcript.specs.Orient.{Interval, interval, orient}
 use Rattle.transcript.specs.Bases.{gaps_after, gaps}
-use Rattle.transcript.specs.Limits.{coordinate_limit}
+use Rattle.transcript.specs.Limits.{top, coordinate_limit}
 use Rattle.transcript.specs.Transcript.{exons_of}
 use Rattle.transcript.specs.Admission.{bad_exon}
 use Rattle.transcript.proofs.Listed.{nowhere, exon}
+use Rattle.transcript.proofs.Orient.{orient_high}
 use Rattle.transcript.specs.code.Lent.{lent_exons}
 use Rattle.footprint.specs.code.Lent.{lent_gaps}
 
@@ -79,6 +80,10 @@ module _ (σ : Strand) (ss es : List ℕ) where
 
   pub gap_end : (k : ℕ) → k ≤ min (length ss) (length es) - 1 → min (length ss) (length es) ≤ k + 1 → k ≡ length (lent_gaps σ ss es)
   gap_end k h l = let n = gap_count in omega arith
+
+  -- between exons of good edges a gap starts low
+  pub gap_low : (k : ℕ) → any bad_exon (exons_of ss es) ≡ false → k + 1 < length ss → k + 1 < length es → (get_or (lent_gaps σ ss es) k nowhere).start ≤ top
+  gap_low k h l m = rw (gap_at k l m) (orient_high σ (get_or ss k 0) (get_or es k 0) (end_low ss es k h (omega arith) (omega arith)))
 
   -- behind the last gap there is none
   pub gap_none : (k : ℕ) → min (length ss) (length es) ≤ k + 1 → nowhere ≡ get_or (lent_gaps σ ss es) k nowhere

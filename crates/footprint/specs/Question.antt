@@ -11,10 +11,6 @@ use Rattle.footprint.specs.declared.Ranges.{Ranges}
 use Rattle.footprint.specs.Flank.{classify_flank}
 use Rattle.footprint.specs.ShortIntron.{frameshift_intron_endpoint, exonic_splice_spill}
 
--- whether the question is admitted
-abbrev pub asked : Transcript → ℕ → ℕ → ℕ → Result (Unit {0}) Refusal
-asked t chromosome s e = outcome (interval_refusal t chromosome s e) tt
-
 unfoldable pub flank : Ranges → Transcript → ℕ → ℕ → ℕ → Result Flank Refusal
 flank r t chromosome s e = outcome (interval_refusal t chromosome s e) (classify_flank r (oriented t) (orient t.model.strand s e))
 

@@ -7,7 +7,7 @@ ghost use Rattle.footprint.specs.ShortIntron.{donor_window, acceptor_window, spi
 
 use super::gaps::gap_at;
 use super::span::Span;
-use transcript::{Intervals, Strand};
+use transcript::Stranded;
 
 // Whether p is the base behind a gap of one base.
 pub(crate) fn hits_donor(gap: Span, p: u64) -> bool
@@ -24,17 +24,17 @@ pub(crate) fn hits_acceptor(gap: Span, p: u64) -> bool
 }
 
 // Whether p hits the donor window of the gap after exon i.
-pub fn donor_spill(exons: Intervals, strand: Strand, i: usize, p: u64) -> bool
-    ensures { let gap = get_or (gaps_in strand exons.entry) i (interval 0 0) in
+pub fn donor_spill(exons: Stranded, i: usize, p: u64) -> bool
+    ensures { let gap = get_or (gaps_in exons.entry.strand exons.entry.intervals) i (interval 0 0) in
         result ≡ spills_into donor_window (interval p (p + 1)) gap }
 {
-    hits_donor(gap_at(exons, strand, i), p)
+    hits_donor(gap_at(exons, i), p)
 }
 
 // Whether p hits its acceptor window.
-pub fn acceptor_spill(exons: Intervals, strand: Strand, i: usize, p: u64) -> bool
-    ensures { let gap = get_or (gaps_in strand exons.entry) i (interval 0 0) in
+pub fn acceptor_spill(exons: Stranded, i: usize, p: u64) -> bool
+    ensures { let gap = get_or (gaps_in exons.entry.strand exons.entry.intervals) i (interval 0 0) in
         result ≡ spills_into acceptor_window (interval p (p + 1)) gap }
 {
-    hits_acceptor(gap_at(exons, strand, i), p)
+    hits_acceptor(gap_at(exons, i), p)
 }

@@ -1,9 +1,7 @@
 // The short intron that holds an end of an interval, in oriented coordinates.
-ghost use Rattle.std.specs.Prelude.{◌≡◌, ◌≤◌, length};
-ghost use Rattle.transcript.specs.Limits.{max_exons};
+ghost use Rattle.std.specs.Prelude.{◌≡◌};
 ghost use Rattle.transcript.specs.Transcript.{transcript_of};
-ghost use Rattle.transcript.specs.Orient.{Oriented};
-ghost use Rattle.transcript.specs.code.Lent.{oriented_in};
+ghost use Rattle.transcript.specs.Orient.{oriented};
 ghost use Rattle.footprint.specs.code.Lent.{span_of};
 ghost use Rattle.footprint.specs.ShortIntron.{holds_end, ends_in, frameshift_intron_endpoint};
 ghost use Rattle.footprint.specs.Question.{short_intron};
@@ -12,8 +10,9 @@ use super::gaps::{gap_after, is_frameshift_gap};
 use super::question::judge_interval;
 use super::span::{Span, span_of};
 use common::refusal::Refusal;
+use transcript::admission::Admitted;
 use transcript::segments::lies_in;
-use transcript::{Intervals, Strand, Transcript};
+use transcript::{Stranded, Transcript};
 
 // Whether the gap holds an end base of q; of an insertion, the bases on both its sides.
 pub(crate) fn holds_end(q: Span, gap: Span) -> bool
@@ -33,15 +32,13 @@ pub(crate) fn ends_in(q: Span, gap: Span) -> bool
 }
 
 // The index of the first short gap that holds an end of q.
-pub(crate) fn endpoint_of(exons: Intervals, strand: Strand, q: Span) -> Option<u16>
-    requires even { length exons.starts.now ≡ length exons.ends.now }
-    requires few { length exons.starts.now ≤ max_exons }
-    ensures { (t : Oriented)
-        → t.exons ≡ oriented_in strand exons.entry
-        → result ≡ frameshift_intron_endpoint t (span_of q) }
+pub(crate) fn endpoint_of(admitted: Admitted, q: Span) -> Option<u16>
+    ensures { let t = transcript_of admitted.entry.transcript.now in
+        result ≡ frameshift_intron_endpoint (oriented t) (span_of q) }
 {
-    for i in 0..exons.starts.len().saturating_sub(1) {
-        if ends_in(q, gap_after(exons, strand, i)) {
+    let exons = Stranded::exons(admitted.transcript);
+    for i in 0..exons.intervals.starts.len().saturating_sub(1) {
+        if ends_in(q, gap_after(exons, i)) {
             return Some(i as u16);
         }
     }
@@ -57,8 +54,7 @@ pub fn frameshift_intron_endpoint(
 ) -> Result<Option<u16>, Refusal>
     ensures { result ≡ short_intron (transcript_of transcript.now) chromosome start end }
 {
-    judge_interval(chromosome, start, end, transcript)?;
-    let strand = transcript.model.strand;
-    let q = span_of(strand, start, end);
-    Ok(endpoint_of(transcript.exons, strand, q))
+    let admitted = judge_interval(chromosome, start, end, transcript)?;
+    let q = span_of(transcript.model.strand, start, end);
+    Ok(endpoint_of(admitted, q))
 }

@@ -1,27 +1,32 @@
 // Whether a question about an interval is admitted: 1 to 13, then 15, then 14.
 ghost use Rattle.std.specs.Prelude.{◌≡◌};
+ghost use Rattle.common.specs.Refusal.{outcome};
 ghost use Rattle.transcript.specs.Transcript.{transcript_of};
-ghost use Rattle.footprint.specs.Question.{asked};
+ghost use Rattle.transcript.specs.Question.{interval_refusal};
+ghost use Rattle.transcript.specs.code.Admitted.{lent_by};
 
 use common::refusal::Refusal;
+use transcript::Transcript;
+use transcript::admission::Admitted;
 use transcript::question::bad_interval;
-use transcript::{Transcript, admit};
 
-// Whether the question about [start, end) is admitted.
-pub(crate) fn judge_interval(
+// The transcript of a question about [start, end) that is admitted. The public questions take chromosome, start and end apart, as C lends
+// them: a struct that each makes for this one call is no plainer.
+pub(crate) fn judge_interval<'a>(
     chromosome: u16,
     start: u64,
     end: u64,
-    transcript: &Transcript,
-) -> Result<(), Refusal>
-    ensures { result ≡ asked (transcript_of transcript.now) chromosome start end }
+    transcript: &'a Transcript<'a>,
+) -> Result<Admitted<'a>, Refusal>
+    ensures { let t = transcript.now in
+        lent_by result ≡ outcome (interval_refusal (transcript_of t) chromosome start end) t }
 {
-    admit(transcript)?;
+    let admitted = Admitted::of(transcript)?;
     if bad_interval(start, end) {
         return Err(Refusal::Interval);
     }
     if chromosome != transcript.model.chromosome {
         return Err(Refusal::Chromosome);
     }
-    Ok(())
+    Ok(admitted)
 }

@@ -15,7 +15,7 @@ pub struct Span {
     pub end: u64,
 }
 
-// [s, e), oriented.
+// [s, e), oriented: a function of a strand and two edges, as `start_of` is.
 pub(crate) fn span_of(strand: Strand, s: u64, e: u64) -> Span
     requires { (s ≤ top) × (e ≤ top) }
     ensures { span_of result ≡ orient strand s e }

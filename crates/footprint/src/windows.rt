@@ -1,11 +1,8 @@
 // The splice windows of short introns that reach an interval beside the intron, in oriented coordinates.
-ghost use Rattle.std.specs.Prelude.{◌≡◌, false, ◌&&◌, ◌≤◌, length};
-ghost use Rattle.common.specs.Lists.{any};
+ghost use Rattle.std.specs.Prelude.{◌≡◌, ◌&&◌, ◌≤◌};
 ghost use Rattle.transcript.specs.Limits.{top};
 ghost use Rattle.transcript.specs.Transcript.{transcript_of};
-ghost use Rattle.transcript.specs.Orient.{Oriented};
-ghost use Rattle.transcript.specs.Admission.{bad_exon};
-ghost use Rattle.transcript.specs.code.Lent.{exons_in, oriented_in};
+ghost use Rattle.transcript.specs.Orient.{oriented};
 ghost use Rattle.footprint.specs.code.Lent.{span_of};
 ghost use Rattle.footprint.specs.ShortIntron.{is_frameshift_gap, hits, donor_window, acceptor_window, exonic_splice_spill};
 ghost use Rattle.footprint.specs.Question.{spill};
@@ -15,7 +12,8 @@ use super::gaps::{gap_after, is_frameshift_gap};
 use super::question::judge_interval;
 use super::span::{Span, overlaps, span_of};
 use common::refusal::Refusal;
-use transcript::{Intervals, Strand, Transcript};
+use transcript::admission::Admitted;
+use transcript::{Stranded, Transcript};
 
 // The first two bases of the gap; at gap 1 the second lies in the next exon.
 pub(crate) fn donor_window(gap: Span) -> Span
@@ -53,17 +51,15 @@ pub(crate) fn spills_into(window: Span, q: Span, gap: Span) -> bool
 }
 
 // The windows that q hits: two facts, so two flags.
-pub(crate) fn spill_of(exons: Intervals, strand: Strand, q: Span) -> SpliceSpill
-    requires even { length exons.starts.now ≡ length exons.ends.now }
-    requires good_edges { any bad_exon (exons_in exons) ≡ false }
-    ensures { (t : Oriented)
-        → t.exons ≡ oriented_in strand exons.entry
-        → result ≡ exonic_splice_spill t (span_of q) }
+pub(crate) fn spill_of(admitted: Admitted, q: Span) -> SpliceSpill
+    ensures { let t = transcript_of admitted.entry.transcript.now in
+        result ≡ exonic_splice_spill (oriented t) (span_of q) }
 {
+    let exons = Stranded::exons(admitted.transcript);
     let mut donor = false;
     let mut acceptor = false;
-    for i in 0..exons.starts.len().saturating_sub(1) {
-        let gap = gap_after(exons, strand, i);
+    for i in 0..exons.intervals.starts.len().saturating_sub(1) {
+        let gap = gap_after(exons, i);
         donor |= spills_into(donor_window(gap), q, gap);
         acceptor |= spills_into(acceptor_window(gap), q, gap);
     }
@@ -79,8 +75,7 @@ pub fn exonic_splice_spill(
 ) -> Result<SpliceSpill, Refusal>
     ensures { result ≡ spill (transcript_of transcript.now) chromosome start end }
 {
-    judge_interval(chromosome, start, end, transcript)?;
-    let strand = transcript.model.strand;
-    let q = span_of(strand, start, end);
-    Ok(spill_of(transcript.exons, strand, q))
+    let admitted = judge_interval(chromosome, start, end, transcript)?;
+    let q = span_of(transcript.model.strand, start, end);
+    Ok(spill_of(admitted, q))
 }

@@ -1,7 +1,7 @@
 -- The bases before a base of an interval, from the length of the intervals before it.
 -- Assumes nothing.
 use Prim.Native.Nat.{ℕ, ◌+◌, ◌-◌, ◌≤◌, ◌<◌}
-use mathlib.Core.Path.{◌≡◌, sym, ◌∙◌, ap}
+use mathlib.Core.Path.{◌≡◌, ap}
 use mathlib.Core.Bool.{true}
 use mathlib.Core.List.{List, map}
 use native.Mathlib.Omega.{arith}
@@ -9,7 +9,6 @@ use lib.ListN.{length, get_or}
 use Rattle.transcript.specs.declared.Strand.{Strand}
 use Rattle.transcript.specs.Limits.{top}
 use Rattle.transcript.specs.Transcript.{exons_of}
-use Rattle.transcript.specs.Orient.{orient}
 use Rattle.transcript.specs.Bases.{inside, sum, bases_in}
 use Rattle.transcript.specs.code.Lent.{exon_size, lent_exons}
 use Rattle.transcript.proofs.Orient.{inside_start, inside_end}
@@ -17,17 +16,14 @@ use Rattle.transcript.proofs.Listed.{nowhere}
 use Rattle.locate.specs.Index.{cumulative}
 use Rattle.locate.specs.code.Search.{Ready}
 use Rattle.locate.proofs.Sums.{bases_le, sum_before}
-use Rattle.locate.proofs.Searching.{ascends, count, start_at_lem, end_at_lem, end_top}
+use Rattle.locate.proofs.Searching.{ascends, count, end_at_lem, end_top}
 use Rattle.locate.proofs.LentIndex.{sizes_turned, sizes_bound}
 
 module _ (σ : Strand) (ss es : List ℕ) (r : Ready σ ss es) where
   pub lengths_low : sum (map exon_size (exons_of ss es)) ≤ top
   lengths_low = sizes_bound σ (exons_of ss es) r.edges r.order
 
-  module _ (k p start : ℕ) (l : k < length ss) (h : inside p (get_or (lent_exons σ ss es) k nowhere) ≡ true) (e : start ≡ (orient σ (get_or ss k 0) (get_or es k 0)).start) where
-    starts : start ≡ (get_or (lent_exons σ ss es) k nowhere).start
-    starts = e ∙ sym (start_at_lem σ ss es r k l)
-
+  module _ (k p start : ℕ) (l : k < length ss) (h : inside p (get_or (lent_exons σ ss es) k nowhere) ≡ true) (starts : start ≡ (get_or (lent_exons σ ss es) k nowhere).start) where
     pub start_before : start ≤ p
     start_before = let s = starts in let i = inside_start p (get_or (lent_exons σ ss es) k nowhere) h in omega arith
 

@@ -11,7 +11,8 @@ use Rattle.transcript.specs.Orient.{Interval, Oriented, oriented}
 use Rattle.transcript.specs.Bases.{size, bases_in, end_after}
 use Rattle.locate.specs.Place.{total_cds_length}
 use Rattle.locate.specs.Index.{cumulative, index_scalars}
-use Rattle.locate.specs.code.Exonic.{Counts, counts}
+use Rattle.locate.specs.declared.exonic.Counts.{Counts}
+use Rattle.locate.specs.code.Exonic.{counts}
 use Rattle.transcript.proofs.Ascends.{Ascends}
 use Rattle.transcript.proofs.Cuts.{cuts_ascend, cuts_bases}
 use Rattle.transcript.proofs.Facts.{Facts}

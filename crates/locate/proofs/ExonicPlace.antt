@@ -2,7 +2,7 @@
 -- Assumes nothing.
 use Prim.Native.Nat.{ℕ, ◌+◌, ◌-◌, ◌≤◌, ◌<◌}
 use mathlib.Core.Path.{◌≡◌, sym, ap}
-use mathlib.Core.Bool.{Bool, cond}
+use mathlib.Core.Bool.{Bool, true, cond}
 use native.Mathlib.Omega.{arith}
 use lib.ListN.{length, get_or}
 use lib.Dec.{leb, ltb}
@@ -48,31 +48,29 @@ module _ (t : Transcript) (f : Facts t) (i p : ℕ) (l : i < length (oriented t)
   segment_is : (oriented t).cds.start ≤ p → p < (oriented t).cds.end → interval_index (oriented t).segments p + first_exon t ≡ i
   segment_is u v = segment_of_exon t f i p l a b (inside_by p (oriented t).cds u v)
 
-  pub countable : p ≤ top → (oriented t).pad ≤ 2 → Countable (oriented t).coding (index_counts (oriented t) p i (first_exon t)) (oriented t).cds p i
-  countable h q = record {
+  pub countable : (oriented t).coding ≡ true → p ≤ top → (oriented t).pad ≤ 2 → Countable (index_counts (oriented t) p i (first_exon t)) (oriented t).cds p i
+  countable c h q = record {
     before_low = (let w = bases_le (oriented t).exons 0 p f.order in let n = (numbers t f i p (first_exon t) l a b).before in omega arith);
     utr5_low = utr5_le q;
     end_low = end_le;
     pad_low = q;
-    five = λ c u. (let e = five_is t f i p (first_exon t) l a b c u in omega arith);
-    three = λ c u. (let e = three_is t f i p (first_exon t) l a b c u in omega arith);
-    cds_from = λ c u. (let e = cds_is t f i p (first_exon t) l a b c u in omega arith);
-    from_first = λ c u v. (let e = segment_is u v in omega arith);
+    five = λ u. (let e = five_is t f i p (first_exon t) l a b c u in omega arith);
+    three = λ u. (let e = three_is t f i p (first_exon t) l a b c u in omega arith);
+    cds_from = λ u. (let e = cds_is t f i p (first_exon t) l a b c u in omega arith);
+    from_first = λ u v. (let e = segment_is u v in omega arith);
   }
 
   less : (u n w : ℕ) → u ≡ n + w → u - n ≡ w
   less u n w h = omega arith
 
-  pub exonic_same : (mark : Bool) → exonic_of (oriented t).coding (index_counts (oriented t) p i (first_exon t)) (oriented t).cds p i mark ≡ exonic (oriented t) p i mark
+  pub exonic_same : (oriented t).coding ≡ true → (mark : Bool) → exonic_of (index_counts (oriented t) p i (first_exon t)) (oriented t).cds p i mark ≡ exonic (oriented t) p i mark
   unfolding exonic exonic_of
-  exonic_same mark =
-      on_test (oriented t).coding
-      (λ c. on_test (ltb p (oriented t).cds.start)
+  exonic_same c mark =
+      on_test (ltb p (oriented t).cds.start)
       (λ u. rw (c, u) (ap (λ (n : ℕ). FivePrimeUtr i (minus n) mark) (rw c at (less _ _ _ (five_is t f i p (first_exon t) l a b c (ltb-true p (oriented t).cds.start u))))))
       (λ u. on_test (leb (oriented t).cds.end p)
       (λ v. rw (c, u, v) (ap (λ (n : ℕ). ThreePrimeUtr i (pos n) mark) (rw c at (less _ _ _ (three_is t f i p (first_exon t) l a b c (leb-true (oriented t).cds.end p v))))))
-      (λ v. rw (c, u, v) (rw c at (coded mark (ltb-false p (oriented t).cds.start u) (leb-false (oriented t).cds.end p v) (less _ _ _ (cds_is t f i p (first_exon t) l a b c (ltb-false p (oriented t).cds.start u))))))))
-      (λ c. rw c)
+      (λ v. rw (c, u, v) (rw c at (coded mark (ltb-false p (oriented t).cds.start u) (leb-false (oriented t).cds.end p v) (less _ _ _ (cds_is t f i p (first_exon t) l a b c (ltb-false p (oriented t).cds.start u)))))))
     where
       coded : (mark : Bool) → (oriented t).cds.start ≤ p → p < (oriented t).cds.end
           → (index_counts (oriented t) p i (first_exon t)).before - (index_counts (oriented t) p i (first_exon t)).utr5 ≡ bases_in (oriented t).exons (oriented t).cds.start p

@@ -4,6 +4,7 @@ pub mod Cdna
 pub mod PrefixSums
 pub mod Sums
 pub mod LentIndex
+pub mod LentScalars
 pub mod Offset
 pub mod CodingExons
 pub mod LentTranscript
@@ -11,6 +12,8 @@ pub mod CodedBases
 pub mod Counting
 pub mod Finding
 pub mod Signed
+pub mod Walking
+pub mod Halving
 pub mod Searching
 pub mod Introns
 pub mod Exons

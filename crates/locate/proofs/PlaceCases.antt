@@ -20,38 +20,30 @@ use Rattle.locate.specs.Find.{Found, in_exon, in_intron, outside, find_exon_or_i
 use Rattle.locate.specs.Intronic.{classify_intronic}
 use Rattle.locate.specs.Place.{is_exonic_splice_region, exonic, place_found, locate}
 use Rattle.transcript.specs.code.Lent.{lent_exons}
+use Rattle.locate.specs.declared.Feature.{Feature}
+use Rattle.locate.specs.code.Features.{feature, bases_of}
 use Rattle.locate.specs.code.Search.{exon_or_intron, FoundAt, Holds, upstream_by, downstream_by}
 use Rattle.locate.proofs.LentTranscript.{known, exons_are, coding_is}
 
 abbrev kind : ExonOrIntron → ℕ
-kind (ExonOrIntron.Exon i s e) = 0
-kind (ExonOrIntron.Intron i s e) = 1
+kind (ExonOrIntron.Exon x) = 0
+kind (ExonOrIntron.Intron x) = 1
 kind ExonOrIntron.Outside = 2
 
-abbrev index : ExonOrIntron → ℕ
-index (ExonOrIntron.Exon i s e) = i
-index (ExonOrIntron.Intron i s e) = i
-index ExonOrIntron.Outside = 0
+abbrev held : ExonOrIntron → Feature
+held (ExonOrIntron.Exon x) = x
+held (ExonOrIntron.Intron x) = x
+held ExonOrIntron.Outside = feature 0 (interval 0 0)
 
-abbrev start : ExonOrIntron → ℕ
-start (ExonOrIntron.Exon i s e) = s
-start (ExonOrIntron.Intron i s e) = s
-start ExonOrIntron.Outside = 0
+pub held_exon : (w : Found) (y : Feature) → exon_or_intron w ≡ ExonOrIntron.Exon y → w ≡ in_exon y.index (bases_of y)
+held_exon (in_exon j x) y h = λ k. in_exon (ap held h k).index (bases_of (ap held h k))
+held_exon (in_intron j x) y h = absurd (let z = ap kind h in omega arith)
+held_exon outside y h = absurd (let z = ap kind h in omega arith)
 
-abbrev end : ExonOrIntron → ℕ
-end (ExonOrIntron.Exon i s e) = e
-end (ExonOrIntron.Intron i s e) = e
-end ExonOrIntron.Outside = 0
-
-pub held_exon : (w : Found) (i s e : ℕ) → exon_or_intron w ≡ ExonOrIntron.Exon i s e → w ≡ in_exon i (interval s e)
-held_exon (in_exon j x) i s e h = λ k. in_exon (ap index h k) (interval (ap start h k) (ap end h k))
-held_exon (in_intron j x) i s e h = absurd (let z = ap kind h in omega arith)
-held_exon outside i s e h = absurd (let z = ap kind h in omega arith)
-
-pub held_intron : (w : Found) (i s e : ℕ) → exon_or_intron w ≡ ExonOrIntron.Intron i s e → w ≡ in_intron i (interval s e)
-held_intron (in_exon j x) i s e h = absurd (let z = ap kind h in omega arith)
-held_intron (in_intron j x) i s e h = λ k. in_intron (ap index h k) (interval (ap start h k) (ap end h k))
-held_intron outside i s e h = absurd (let z = ap kind h in omega arith)
+pub held_intron : (w : Found) (y : Feature) → exon_or_intron w ≡ ExonOrIntron.Intron y → w ≡ in_intron y.index (bases_of y)
+held_intron (in_exon j x) y h = absurd (let z = ap kind h in omega arith)
+held_intron (in_intron j x) y h = λ k. in_intron (ap held h k).index (bases_of (ap held h k))
+held_intron outside y h = absurd (let z = ap kind h in omega arith)
 
 pub held_outside : (w : Found) → exon_or_intron w ≡ ExonOrIntron.Outside → w ≡ outside
 held_outside (in_exon j x) h = absurd (let z = ap kind h in omega arith)
@@ -69,8 +61,8 @@ module _ (m : TranscriptModel) (ss es ps is gs ge bs : List ℕ) (h : admission 
   pub from_first : first ≤ p → first_start (lent_exons m.strand ss es) ≤ p
   from_first l = let b = begins ∙ ap first_start (exons_are m ss es ps is gs ge bs h) in omega arith
 
-  pub holds_exon : (i s e : ℕ) → FoundAt (lent_exons m.strand ss es) p (ExonOrIntron.Exon i s e) → Holds (oriented (lent m ss es ps is gs ge bs)) i s e p
-  holds_exon i s e k =
+  pub holds_exon : (y : Feature) → FoundAt (lent_exons m.strand ss es) p (ExonOrIntron.Exon y) → Holds (oriented (lent m ss es ps is gs ge bs)) y p
+  holds_exon y k =
       let x = exons_are m ss es ps is gs ge bs h in
       record {
         index = rw x k.0;
@@ -106,15 +98,15 @@ module _ (m : TranscriptModel) (ss es ps is gs ge bs : List ℕ) (h : admission 
     by_found w e l u =
         ap (λ (v : Found). place_found r (oriented (lent m ss es ps is gs ge bs)) p v) (sym (ap (λ (xs : List Interval). find_exon_or_intron xs p) (exons_are m ss es ps is gs ge bs h) ∙ e)) ∙ inner l u
 
-    pub is_exon_lem : (i s e : ℕ) → exon_or_intron (find_exon_or_intron (lent_exons m.strand ss es) p) ≡ ExonOrIntron.Exon i s e → first ≤ p → p < last
-        → exonic (oriented (lent m ss es ps is gs ge bs)) p i (is_exonic_splice_region (length (oriented (lent m ss es ps is gs ge bs)).exons) i (interval s e) p) ≡ locate r (oriented (lent m ss es ps is gs ge bs)) p
-    is_exon_lem i s e w l u = by_found (in_exon i (interval s e)) (held_exon (find_exon_or_intron (lent_exons m.strand ss es) p) i s e w) l u
+    pub is_exon_lem : (y : Feature) → exon_or_intron (find_exon_or_intron (lent_exons m.strand ss es) p) ≡ ExonOrIntron.Exon y → first ≤ p → p < last
+        → exonic (oriented (lent m ss es ps is gs ge bs)) p y.index (is_exonic_splice_region (length (oriented (lent m ss es ps is gs ge bs)).exons) y.index (bases_of y) p) ≡ locate r (oriented (lent m ss es ps is gs ge bs)) p
+    is_exon_lem y w l u = by_found (in_exon y.index (bases_of y)) (held_exon (find_exon_or_intron (lent_exons m.strand ss es) p) y w) l u
 
-    pub is_intron : (i s e : ℕ) → exon_or_intron (find_exon_or_intron (lent_exons m.strand ss es) p) ≡ ExonOrIntron.Intron i s e → first ≤ p → p < last
-        → classify_intronic r (ltb 0 (length gs)) i (interval s e) p ≡ locate r (oriented (lent m ss es ps is gs ge bs)) p
-    is_intron i s e w l u =
-        ap (λ (c : Bool). classify_intronic r c i (interval s e) p) (coding_is m ss es ps is gs ge bs h)
-        ∙ by_found (in_intron i (interval s e)) (held_intron (find_exon_or_intron (lent_exons m.strand ss es) p) i s e w) l u
+    pub is_intron : (y : Feature) → exon_or_intron (find_exon_or_intron (lent_exons m.strand ss es) p) ≡ ExonOrIntron.Intron y → first ≤ p → p < last
+        → classify_intronic r (ltb 0 (length gs)) y.index (bases_of y) p ≡ locate r (oriented (lent m ss es ps is gs ge bs)) p
+    is_intron y w l u =
+        ap (λ (c : Bool). classify_intronic r c y.index (bases_of y) p) (coding_is m ss es ps is gs ge bs h)
+        ∙ by_found (in_intron y.index (bases_of y)) (held_intron (find_exon_or_intron (lent_exons m.strand ss es) p) y w) l u
 
     pub is_outside_lem : exon_or_intron (find_exon_or_intron (lent_exons m.strand ss es) p) ≡ ExonOrIntron.Outside → first ≤ p → p < last → VariantLocation.Distal ≡ locate r (oriented (lent m ss es ps is gs ge bs)) p
     is_outside_lem w l u = by_found outside (held_outside (find_exon_or_intron (lent_exons m.strand ss es) p) w) l u

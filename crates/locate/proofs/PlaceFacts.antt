@@ -1,13 +1,12 @@
 -- A base of an exon of an admitted transcript whose lists are lent apart, in the terms in which the code reads its place.
 -- Assumes nothing.
 use Prim.Native.Nat.{ℕ, ◌+◌, ◌-◌, ◌≤◌, ◌<◌}
-use mathlib.Core.Path.{◌≡◌, refl, sym, ◌∙◌, ap}
-use mathlib.Core.Bool.{Bool, true, false}
+use mathlib.Core.Path.{◌≡◌, sym, ◌∙◌, ap}
+use mathlib.Core.Bool.{Bool, true}
 use mathlib.Core.List.{List, map}
 use native.Mathlib.Omega.{arith}
 use lib.ListN.{length, get_or}
-use lib.Dec.{ltb}
-use Rattle.common.proofs.TestParts.{true_false}
+use borrow.Author.Tests.{lt-ltb}
 use Rattle.transcript.specs.declared.TranscriptModel.{TranscriptModel}
 use Rattle.transcript.specs.Limits.{top}
 use Rattle.transcript.specs.Transcript.{lent, cds_start, cds_end}
@@ -18,8 +17,11 @@ use Rattle.locate.specs.declared.IndexScalars.{IndexScalars}
 use Rattle.locate.specs.Index.{cumulative, index_scalars}
 use Rattle.locate.specs.code.Sums.{ExonSums}
 use Rattle.locate.specs.Place.{is_exonic_splice_region, exonic}
+use Rattle.locate.specs.declared.Feature.{Feature}
+use Rattle.locate.specs.code.Features.{bases_of}
 use Rattle.locate.specs.code.Search.{Holds}
-use Rattle.locate.specs.code.Exonic.{Counts, counts, exonic_of, Countable}
+use Rattle.locate.specs.declared.exonic.Counts.{Counts}
+use Rattle.locate.specs.code.Exonic.{counts, exonic_of, Countable}
 use Rattle.transcript.proofs.Listed.{nowhere}
 use Rattle.locate.proofs.Searching.{end_at_lem, end_top}
 use Rattle.locate.proofs.Offset.{sum_low}
@@ -33,30 +35,11 @@ abbrev pub code_counts : IndexScalars → ℕ → Counts
 code_counts x before =
     counts before x.utr5_exonic_len (x.utr5_exonic_len + (x.total_cds_length - x.cds_start_pad)) x.cds_start_pad x.cds_start_exon_idx
 
--- without a CDS its edges take no part
-edges : (c : Bool) (n : Counts) (x y : Interval) (p i : ℕ) → (c ≡ true → x ≡ y) → Countable c n y p i → Countable c n x p i
-edges true n x y p i g h = rw (g refl) h
-edges false n x y p i g h = record {
-  before_low = h.before_low;
-  utr5_low = h.utr5_low;
-  end_low = h.end_low;
-  pad_low = h.pad_low;
-  five = λ c. absurd (true_false (sym c));
-  three = λ c. absurd (true_false (sym c));
-  cds_from = λ c. absurd (true_false (sym c));
-  from_first = λ c. absurd (true_false (sym c));
-}
+pub move : (n k : Counts) (x y : Interval) (p i : ℕ) → n ≡ k → x ≡ y → Countable k y p i → Countable n x p i
+move n k x y p i f g h = rw (f, g) h
 
-edges_place : (c : Bool) (n : Counts) (x y : Interval) (p i : ℕ) (m : Bool) → (c ≡ true → x ≡ y) → exonic_of c n x p i m ≡ exonic_of c n y p i m
-unfolding exonic_of
-edges_place true n x y p i m g = rw (g refl)
-edges_place false n x y p i m g = refl
-
-pub move : (c d : Bool) (n k : Counts) (x y : Interval) (p i : ℕ) → c ≡ d → n ≡ k → (c ≡ true → x ≡ y) → Countable d k y p i → Countable c n x p i
-move c d n k x y p i e f g h = edges c n x y p i g (rw (e, f) h)
-
-pub move_place : (c d : Bool) (n k : Counts) (x y : Interval) (p i : ℕ) (m : Bool) → c ≡ d → n ≡ k → (c ≡ true → x ≡ y) → exonic_of c n x p i m ≡ exonic_of d k y p i m
-move_place c d n k x y p i m e f g = edges_place c n x y p i m g ∙ rw (e, f)
+pub move_place : (n k : Counts) (x y : Interval) (p i : ℕ) (m : Bool) → n ≡ k → x ≡ y → exonic_of n x p i m ≡ exonic_of k y p i m
+move_place n k x y p i m f g = rw (f, g)
 
 module _ (m : TranscriptModel) (ss es ps is gs ge bs : List ℕ) (h : admission (lent m ss es ps is gs ge bs) ≡ 0) where
   -- the last exon ends within the coordinates
@@ -67,54 +50,57 @@ module _ (m : TranscriptModel) (ss es ps is gs ge bs : List ℕ) (h : admission 
     pub pad_fits : x.cds_start_pad ≤ x.total_cds_length
     pad_fits = rw q (omega arith)
 
-    module _ (i start end p : ℕ) (d : Holds (oriented (lent m ss es ps is gs ge bs)) i start end p) where
-      pub index_low : i < length ss
+    module _ (y : Feature) (p : ℕ) (d : Holds (oriented (lent m ss es ps is gs ge bs)) y p) where
+      pub index_low : y.index < length ss
       index_low = let n = count m ss es ps is gs ge bs h in let l = d.index in omega arith
 
-      pub end_high : end ≤ top
+      pub end_high : y.end ≤ top
       end_high =
           let f = ready m ss es ps is gs ge bs h in
-          let e = d.end_is ∙ ap (λ (xs : List Interval). (get_or xs i nowhere).end) (exons_are m ss es ps is gs ge bs h) ∙ end_at_lem m.strand ss es f i index_low in
-          let l = end_top m.strand ss es f i index_low in
+          let e = d.end_is ∙ ap (λ (xs : List Interval). (get_or xs y.index nowhere).end) (exons_are m ss es ps is gs ge bs h) ∙ end_at_lem m.strand ss es f y.index index_low in
+          let l = end_top m.strand ss es f y.index index_low in
           omega arith
 
-      pub read_low : get_or sums i 0 ≤ 2 + top
+      pub read_low : get_or sums y.index 0 ≤ 2 + top
       read_low =
           let l = d.index in
-          sum_low (oriented (lent m ss es ps is gs ge bs)).exons sums (known m ss es ps is gs ge bs h).order qs.0 top_end i (omega arith)
+          sum_low (oriented (lent m ss es ps is gs ge bs)).exons sums (known m ss es ps is gs ge bs h).order qs.0 top_end y.index (omega arith)
 
-      pub in_reach : i < length sums
+      pub in_reach : y.index < length sums
       in_reach = let l = d.index in let r = qs.0.reach in omega arith
 
-      codes : (before : ℕ) → before ≡ get_or sums i 0 + (p - start) → code_counts x before ≡ index_counts (oriented (lent m ss es ps is gs ge bs)) p i (first_exon (lent m ss es ps is gs ge bs))
+      codes : (before : ℕ) → before ≡ get_or sums y.index 0 + (p - y.start) → code_counts x before ≡ index_counts (oriented (lent m ss es ps is gs ge bs)) p y.index (first_exon (lent m ss es ps is gs ge bs))
       codes before e =
           let l = d.index in
-          let s : get_or sums i 0 ≡ get_or (cumulative 0 (map size (oriented (lent m ss es ps is gs ge bs)).exons)) i 0
-          = qs.0.are i (omega arith) ∙ ap (λ (n : ℕ). get_or (cumulative n (map size (oriented (lent m ss es ps is gs ge bs)).exons)) i 0) qs.1 in
-          let w : before ≡ get_or (cumulative 0 (map size (oriented (lent m ss es ps is gs ge bs)).exons)) i 0 + (p - (get_or (oriented (lent m ss es ps is gs ge bs)).exons i nowhere).start)
+          let s : get_or sums y.index 0 ≡ get_or (cumulative 0 (map size (oriented (lent m ss es ps is gs ge bs)).exons)) y.index 0
+          = qs.0.are y.index (omega arith) ∙ ap (λ (n : ℕ). get_or (cumulative n (map size (oriented (lent m ss es ps is gs ge bs)).exons)) y.index 0) qs.1 in
+          let w : before ≡ get_or (cumulative 0 (map size (oriented (lent m ss es ps is gs ge bs)).exons)) y.index 0 + (p - (get_or (oriented (lent m ss es ps is gs ge bs)).exons y.index nowhere).start)
           = e ∙ (λ k. s k + (p - d.start_is k)) in
-          (λ k. code_counts (q k) (w k)) ∙ ap (index_counts (oriented (lent m ss es ps is gs ge bs)) p i) (sym (first_is (lent m ss es ps is gs ge bs) (known m ss es ps is gs ge bs h)))
+          (λ k. code_counts (q k) (w k)) ∙ ap (index_counts (oriented (lent m ss es ps is gs ge bs)) p y.index) (sym (first_is (lent m ss es ps is gs ge bs) (known m ss es ps is gs ge bs h)))
 
-      module _ (a b before : ℕ) (ea : a ≡ (orient m.strand (cds_start m.cds) (cds_end m.cds)).start) (eb : b ≡ (orient m.strand (cds_start m.cds) (cds_end m.cds)).end) (f : before ≡ get_or sums i 0 + (p - start)) where
-        cds_same : ltb 0 (length gs) ≡ true → interval a b ≡ (oriented (lent m ss es ps is gs ge bs)).cds
-        cds_same c = (λ k. interval (ea k) (eb k)) ∙ sym (cds_is m ss es ps is gs ge bs h (sym (coding_is m ss es ps is gs ge bs h) ∙ c))
+      module _ (z : 0 < length gs) (a b before : ℕ) (ea : a ≡ (orient m.strand (cds_start m.cds) (cds_end m.cds)).start) (eb : b ≡ (orient m.strand (cds_start m.cds) (cds_end m.cds)).end) (f : before ≡ get_or sums y.index 0 + (p - y.start)) where
+        some : (oriented (lent m ss es ps is gs ge bs)).coding ≡ true
+        some = sym (coding_is m ss es ps is gs ge bs h) ∙ lt-ltb 0 (length gs) z
 
-        from : (get_or (oriented (lent m ss es ps is gs ge bs)).exons i nowhere).start ≤ p
+        cds_same : interval a b ≡ (oriented (lent m ss es ps is gs ge bs)).cds
+        cds_same = (λ k. interval (ea k) (eb k)) ∙ sym (cds_is m ss es ps is gs ge bs h some)
+
+        from : (get_or (oriented (lent m ss es ps is gs ge bs)).exons y.index nowhere).start ≤ p
         from = let s = d.start_is in let l = d.from in omega arith
 
-        to : p < (get_or (oriented (lent m ss es ps is gs ge bs)).exons i nowhere).end
+        to : p < (get_or (oriented (lent m ss es ps is gs ge bs)).exons y.index nowhere).end
         to = let s = d.end_is in let l = d.to in omega arith
 
-        pub countable_code : Countable (ltb 0 (length gs)) (code_counts x before) (interval a b) p i
+        pub countable_code : Countable (code_counts x before) (interval a b) p y.index
         countable_code =
             let e = end_high in let l = d.to in
-            move _ _ _ _ _ _ p i (coding_is m ss es ps is gs ge bs h) (codes before f) cds_same
-            (countable (lent m ss es ps is gs ge bs) (known m ss es ps is gs ge bs h) i p d.index from to (omega arith) (pad_2 m ss es ps is gs ge bs h))
+            move _ _ _ _ p y.index (codes before f) cds_same
+            (countable (lent m ss es ps is gs ge bs) (known m ss es ps is gs ge bs h) y.index p d.index from to some (omega arith) (pad_2 m ss es ps is gs ge bs h))
 
-        pub exonic_code : (mark : Bool) → mark ≡ is_exonic_splice_region (length ss) i (interval start end) p
-            → exonic_of (ltb 0 (length gs)) (code_counts x before) (interval a b) p i mark
-            ≡ exonic (oriented (lent m ss es ps is gs ge bs)) p i (is_exonic_splice_region (length (oriented (lent m ss es ps is gs ge bs)).exons) i (interval start end) p)
+        pub exonic_code : (mark : Bool) → mark ≡ is_exonic_splice_region (length ss) y.index (bases_of y) p
+            → exonic_of (code_counts x before) (interval a b) p y.index mark
+            ≡ exonic (oriented (lent m ss es ps is gs ge bs)) p y.index (is_exonic_splice_region (length (oriented (lent m ss es ps is gs ge bs)).exons) y.index (bases_of y) p)
         exonic_code mark g =
-            move_place _ _ _ _ _ _ p i mark (coding_is m ss es ps is gs ge bs h) (codes before f) cds_same
-            ∙ exonic_same (lent m ss es ps is gs ge bs) (known m ss es ps is gs ge bs h) i p d.index from to mark
-            ∙ ap (λ (k : Bool). exonic (oriented (lent m ss es ps is gs ge bs)) p i k) (g ∙ ap (λ (n : ℕ). is_exonic_splice_region n i (interval start end) p) (sym (count m ss es ps is gs ge bs h)))
+            move_place _ _ _ _ p y.index mark (codes before f) cds_same
+            ∙ exonic_same (lent m ss es ps is gs ge bs) (known m ss es ps is gs ge bs h) y.index p d.index from to some mark
+            ∙ ap (λ (k : Bool). exonic (oriented (lent m ss es ps is gs ge bs)) p y.index k) (g ∙ ap (λ (n : ℕ). is_exonic_splice_region n y.index (bases_of y) p) (sym (count m ss es ps is gs ge bs h)))

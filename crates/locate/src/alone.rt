@@ -2,37 +2,33 @@
 ghost use Rattle.std.specs.Prelude.{◌≡◌, ◌≤◌, length};
 ghost use Rattle.transcript.specs.Limits.{top};
 ghost use Rattle.transcript.specs.Transcript.{transcript_of};
-ghost use Rattle.transcript.specs.Orient.{interval, oriented};
+ghost use Rattle.transcript.specs.Orient.{oriented};
 ghost use Rattle.locate.specs.Place.{is_exonic_splice_region, exonic, locate};
+ghost use Rattle.locate.specs.code.Features.{bases_of};
 ghost use Rattle.locate.specs.code.Search.{Holds};
 
-use super::exonic::{exonic_place, first_index, is_exonic_splice_region};
+use super::exonic::{Counts, exonic_place, first_index, is_exonic_splice_region};
 use super::intronic::classify_intronic;
 use super::lengths::{bases_before, length_before};
 use super::place::{downstream_place, upstream_place};
 use super::search::Ordered;
-use super::{ExonOrIntron, VariantLocation};
+use super::{ExonOrIntron, Feature, VariantLocation};
 use footprint::Ranges;
 use transcript::admission::Admitted;
 use transcript::limits::{end_or_zero, start_or_zero};
 use transcript::order::pad_of;
 use transcript::oriented::{end_of, start_of};
 
-// The place of the base p of exon i, [start, end).
-pub(crate) fn exon_alone(
-    admitted: Admitted,
-    i: usize,
-    start: u64,
-    end: u64,
-    p: u64,
-) -> VariantLocation
-    requires holds { Holds (oriented (transcript_of admitted.transcript.now)) i start end p }
+// The place of the base p of an exon.
+pub(crate) fn exon_alone(admitted: Admitted, exon: Feature, p: u64) -> VariantLocation
+    requires holds { Holds (oriented (transcript_of admitted.transcript.now)) exon p }
     ensures { let t = transcript_of admitted.entry.transcript.now in
-        let mark = is_exonic_splice_region (length (oriented t).exons) i (interval start end) p in
-        result ≡ exonic (oriented t) p i mark }
+        let mark = is_exonic_splice_region (length (oriented t).exons) exon.index (bases_of exon) p in
+        result ≡ exonic (oriented t) p exon.index mark }
 {
     let transcript = admitted.transcript;
-    let mark = is_exonic_splice_region(transcript.exons.starts.len(), i, start, end, p);
+    let mark = is_exonic_splice_region(transcript.exons.starts.len(), exon, p);
+    let i = exon.index;
     let count = transcript.segments.bases.starts.len();
     if count == 0 {
         return VariantLocation::NonCodingExon {
@@ -51,10 +47,15 @@ pub(crate) fn exon_alone(
     let exons = Ordered::exons(admitted);
     let before = bases_before(exons, i, p);
     let utr5 = bases_before(exons, first as usize, a);
-    let coding_end = utr5 + length_before(transcript.segments.bases, count);
-    exonic_place(
-        true, before, utr5, coding_end, pad, first, a, b, p, i as u16, mark,
-    )
+    let coding_end = utr5 + length_before(Ordered::segments(admitted), count);
+    let counts = Counts {
+        before,
+        utr5,
+        coding_end,
+        pad,
+        first,
+    };
+    exonic_place(counts, a, b, p, i as u16, mark)
 }
 
 // The place of p, an oriented coordinate. Apart from `place_of_base`, which places a base of an exon from an index: one function whose
@@ -79,8 +80,8 @@ pub(crate) fn place_alone(ranges: Ranges, admitted: Admitted, p: u64) -> Variant
     }
     let found = Ordered::exons(admitted).find::<true>(p);
     match found {
-        ExonOrIntron::Exon(i, a, b) => exon_alone(admitted, i, a, b, p),
-        ExonOrIntron::Intron(i, a, b) => classify_intronic(ranges, transcript, i, a, b, p),
+        ExonOrIntron::Exon(exon) => exon_alone(admitted, exon, p),
+        ExonOrIntron::Intron(intron) => classify_intronic(ranges, transcript, intron, p),
         ExonOrIntron::Outside => VariantLocation::Distal,
     }
 }

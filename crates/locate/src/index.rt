@@ -16,6 +16,7 @@ use super::search::Ordered;
 use super::selenocysteine::selenocysteine_codons;
 use super::{IndexScalars, LocateIndex};
 use footprint::has_frameshift_intron;
+use transcript::Stranded;
 use transcript::admission::Admitted;
 use transcript::limits::{end_or_zero, start_or_zero};
 use transcript::oriented::start_of;
@@ -94,7 +95,7 @@ pub fn index_of(admitted: Admitted) -> LocateIndex
         admitted,
         &index.cumulative_exons,
         &index.cumulative_cds,
-        has_frameshift_intron(transcript.exons, transcript.model.strand),
+        has_frameshift_intron(Stranded::exons(transcript)),
     );
     let codons = selenocysteine_codons(
         &Ordered::segments(admitted),

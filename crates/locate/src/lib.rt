@@ -87,12 +87,20 @@ pub enum VariantLocation {
     },
 }
 
-// Which exon or intron of a transcript holds a base: its index, and its start and end in oriented coordinates. An intron has the
-// index of the exon before it. An enum of its own: it has three cases, and each holds what the next step needs.
+// An exon or an intron: its index, and its start and end in oriented coordinates. An intron has the index of the exon before it.
+#[derive(Clone, Copy)]
+pub struct Feature {
+    pub index: usize,
+    pub start: u64,
+    pub end: u64,
+}
+
+// Which exon or intron of a transcript holds a base. The Rust's enum, whose third case is an error there: as an Option of two cases it
+// would be no plainer to match.
 #[derive(Clone, Copy)]
 pub enum ExonOrIntron {
-    Exon(usize, u64, u64),
-    Intron(usize, u64, u64),
+    Exon(Feature),
+    Intron(Feature),
     Outside,
 }
 
@@ -110,7 +118,8 @@ pub struct CodonNumbers {
     pub numbers: [u32; 64],
 }
 
-// The scalars of an index. Without a CDS the numbers of its exons are 0.
+// The scalars of an index. Without a CDS the numbers of its exons are 0, where the Rust has None: who reads them has asked before whether
+// there are segments, and an Option, asked again, is no plainer.
 #[derive(Clone, Copy, Default)]
 pub struct IndexScalars {
     pub cds_start_pad: u32,

@@ -2,17 +2,18 @@
 ghost use Rattle.std.specs.Prelude.{◌≡◌, ◌+◌, ◌-◌, ◌≤◌, ◌<◌, length};
 ghost use Rattle.transcript.specs.Limits.{top};
 ghost use Rattle.transcript.specs.Transcript.{transcript_of};
-ghost use Rattle.transcript.specs.Orient.{interval, oriented};
+ghost use Rattle.transcript.specs.Orient.{oriented};
 ghost use Rattle.locate.specs.Index.{index_scalars};
 ghost use Rattle.locate.specs.code.Sums.{ExonSums};
 ghost use Rattle.locate.specs.Place.{is_exonic_splice_region, exonic, locate};
+ghost use Rattle.locate.specs.code.Features.{bases_of};
 ghost use Rattle.locate.specs.code.Search.{Holds, upstream_by, downstream_by};
 
-use super::exonic::{exonic_place, is_exonic_splice_region};
+use super::exonic::{Counts, exonic_place, is_exonic_splice_region};
 use super::intronic::classify_intronic;
 use super::positions::offset_at;
 use super::search::Ordered;
-use super::{ExonOrIntron, IndexScalars, VariantLocation};
+use super::{ExonOrIntron, Feature, IndexScalars, VariantLocation};
 use footprint::Ranges;
 use transcript::admission::Admitted;
 use transcript::limits::{end_or_zero, start_or_zero};
@@ -39,49 +40,49 @@ pub(crate) fn downstream_place(ranges: Ranges, d: u64) -> VariantLocation
     VariantLocation::Distal
 }
 
-// The place of the base p of exon i, [start, end).
+// The place of the base p of an exon. The parts of the index apart, as in consequence's annotate_admitted, for the same reason.
 pub(crate) fn exon_base(
     admitted: Admitted,
     scalars: IndexScalars,
     cumulative_exons: &[u32],
-    i: usize,
-    start: u64,
-    end: u64,
+    exon: Feature,
     p: u64,
 ) -> VariantLocation
     requires indexed { let t = transcript_of admitted.transcript.now in
         (scalars ≡ index_scalars (oriented t)) × ExonSums (oriented t) cumulative_exons.now }
-    requires holds { Holds (oriented (transcript_of admitted.transcript.now)) i start end p }
+    requires holds { Holds (oriented (transcript_of admitted.transcript.now)) exon p }
     ensures { let t = transcript_of admitted.entry.transcript.now in
-        let mark = is_exonic_splice_region (length (oriented t).exons) i (interval start end) p in
-        result ≡ exonic (oriented t) p i mark }
+        let mark = is_exonic_splice_region (length (oriented t).exons) exon.index (bases_of exon) p in
+        result ≡ exonic (oriented t) p exon.index mark }
 {
     let transcript = admitted.transcript;
+    let mark = is_exonic_splice_region(transcript.exons.starts.len(), exon, p);
+    let i = exon.index as u16;
+    let count = transcript.segments.bases.starts.len();
+    if count == 0 {
+        return VariantLocation::NonCodingExon {
+            exon_index: i,
+            is_splice_region: mark,
+        };
+    }
     let utr5 = scalars.utr5_exonic_len;
     let pad = scalars.cds_start_pad;
-    let before = offset_at(cumulative_exons, i, start, p);
+    let before = offset_at(cumulative_exons, exon.index, exon.start, p);
     let coding_end = utr5 + (scalars.total_cds_length - pad);
-    let first = scalars.cds_start_exon_idx;
-    let mark = is_exonic_splice_region(transcript.exons.starts.len(), i, start, end, p);
+    let counts = Counts {
+        before,
+        utr5,
+        coding_end,
+        pad,
+        first: scalars.cds_start_exon_idx,
+    };
     let strand = transcript.model.strand;
     let cds = transcript.model.cds;
     let s = start_or_zero(cds);
     let e = end_or_zero(cds);
     let a = start_of(strand, s, e);
     let b = end_of(strand, s, e);
-    exonic_place(
-        0 < transcript.segments.bases.starts.len(),
-        before,
-        utr5,
-        coding_end,
-        pad,
-        first,
-        a,
-        b,
-        p,
-        i as u16,
-        mark,
-    )
+    exonic_place(counts, a, b, p, i, mark)
 }
 
 // The place of p, an oriented coordinate, with the search that suits bases in order, or in none.
@@ -112,8 +113,8 @@ pub fn place_of_base<const IN_ORDER: bool>(
     }
     let found = Ordered::exons(admitted).find::<IN_ORDER>(p);
     match found {
-        ExonOrIntron::Exon(i, a, b) => exon_base(admitted, scalars, cumulative_exons, i, a, b, p),
-        ExonOrIntron::Intron(i, a, b) => classify_intronic(ranges, transcript, i, a, b, p),
+        ExonOrIntron::Exon(exon) => exon_base(admitted, scalars, cumulative_exons, exon, p),
+        ExonOrIntron::Intron(intron) => classify_intronic(ranges, transcript, intron, p),
         ExonOrIntron::Outside => VariantLocation::Distal,
     }
 }

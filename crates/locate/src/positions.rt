@@ -8,9 +8,9 @@ ghost use Rattle.locate.specs.code.Sums.{first_sum, Sums};
 
 use super::search::Ordered;
 use super::{CdnaPosition, CdsOffset, ExonOrIntron};
-use transcript::oriented::start_of;
 
-// The sum at i and the bases from `start` to p.
+// The sum at i and the bases from `start` to p. The bound of a sum comes from `Sums`, a fact of a list and its intervals: a type of the list
+// alone cannot hold it.
 pub(crate) fn offset_at(sums: &[u32], i: usize, start: u64, p: u64) -> u32
     requires { (i < length sums.now) × (get_or sums.now i 0 ≤ 2 + top) × (start ≤ p) × (p ≤ top) }
     ensures { result ≡ get_or sums.now i 0 + (p - start) }
@@ -26,13 +26,14 @@ pub(crate) fn cds_offset_of(segments: &Ordered, sums: &[u32], p: u64) -> CdsOffs
 {
     let found = segments.find::<true>(p);
     match found {
-        ExonOrIntron::Exon(i, start, end) => CdsOffset(offset_at(sums, i, start, p)),
-        ExonOrIntron::Intron(i, start, end) => CdsOffset(0),
+        ExonOrIntron::Exon(exon) => CdsOffset(offset_at(sums, exon.index, exon.start, p)),
+        ExonOrIntron::Intron(intron) => CdsOffset(0),
         ExonOrIntron::Outside => CdsOffset(0),
     }
 }
 
-// The exonic bases before the CDS, whose first base `from` lies in exon `first`; 0 where there is no CDS.
+// The exonic bases before the CDS, whose first base `from` lies in exon `first`; 0 where there is no CDS. The flag is tested here, as
+// `last_exon` tests for segments: the same test at the one caller is no plainer.
 pub(crate) fn utr5_length(
     coding: bool,
     exons: Ordered,
@@ -48,9 +49,7 @@ pub(crate) fn utr5_length(
     if !coding {
         return 0;
     }
-    let s = exons.intervals.starts[first];
-    let e = exons.intervals.ends[first];
-    offset_at(sums, first, start_of(exons.strand, s, e), from)
+    offset_at(sums, first, exons.start(first), from)
 }
 
 // The cDNA position of a coding base, from its padded offset: the one place where the pad is subtracted.

@@ -14,7 +14,8 @@ use transcript::Intervals;
 use transcript::admission::Admitted;
 use transcript::order::pad_of;
 
-// The lengths of the intervals, summed up from `first` on, stored from a place on.
+// The lengths of the intervals, summed up from `first` on, stored from a place on. They need good edges, and no order, so `Ordered` would
+// ask more of a caller.
 pub fn store_sums(sums: &mut [u32], at: usize, intervals: Intervals, first: u32)
     requires even { (length intervals.starts.now ≡ length intervals.ends.now) × (at + length intervals.starts.now < length sums.old) }
     requires good_edges { any bad_exon (exons_in intervals) ≡ false }

@@ -1,16 +1,17 @@
 // Intervals that can be searched, and the exon or intron that holds a base: a binary search over the oriented starts.
-ghost use Rattle.std.specs.Prelude.{◌≡◌, ◌≤◌, ◌<◌, length};
+ghost use Rattle.std.specs.Prelude.{◌≡◌, ◌≤◌, ◌<◌, length, get_or};
+ghost use Rattle.transcript.specs.Orient.{interval};
 ghost use Rattle.transcript.specs.Bases.{first_start};
 ghost use Rattle.locate.specs.Find.{find_exon_or_intron};
 ghost use Rattle.locate.specs.code.Search.{Ready, Started, LastStart, exon_or_intron, FoundAt};
 
-use super::ExonOrIntron;
+use super::{ExonOrIntron, Feature};
 use transcript::admission::Admitted;
-use transcript::oriented::{end_of, start_of};
-use transcript::{Intervals, Strand};
+use transcript::{Intervals, Strand, Stranded};
 
 // Intervals in strand order, none of them empty, no two overlapping: what can be searched. The strand stands last: before the lists, what
-// pads it was copied in odd parts, and each call of a list took 7 ns longer.
+// pads it was copied in odd parts, and each call of a list took 7 ns longer. It repeats the fields of
+// `Stranded` and holds none: callers read `exons.intervals`, and a path longer by a name is no plainer.
 #[derive(Clone, Copy)]
 pub struct Ordered<'a> {
     pub intervals: Intervals<'a>,
@@ -52,8 +53,38 @@ impl<'a> Ordered<'a> {
         }
     }
 
+    // The same without the fact.
+    #[inline(always)]
+    pub fn stranded(self) -> Stranded<'a>
+        ensures { (result.strand ≡ self.entry.strand) × (result.intervals ≡ self.entry.intervals) }
+    {
+        Stranded {
+            intervals: self.intervals,
+            strand: self.strand,
+        }
+    }
+
+    // Where interval i starts, an oriented coordinate.
+    #[inline(always)]
+    pub fn start(self, i: usize) -> u64
+        requires { i < length self.intervals.starts.now }
+        ensures { result ≡ (get_or (in_order self.entry) i (interval 0 0)).start }
+    {
+        self.stranded().start(i)
+    }
+
+    // Where it ends.
+    #[inline(always)]
+    pub fn end(self, i: usize) -> u64
+        requires { i < length self.intervals.starts.now }
+        ensures { result ≡ (get_or (in_order self.entry) i (interval 0 0)).end }
+    {
+        self.stranded().end(i)
+    }
+
     // How many start at or before p, an oriented coordinate. What is left shrinks alike on both ways. A step is a jump, which a
-    // processor foretells well where bases come in order. No partition_point: on minus a start is read in the list of ends.
+    // processor foretells well where bases come in order. No partition_point: a call for each strand's list is no plainer, and the order of
+    // each list would be proved apart.
     pub fn started(self, p: u64) -> usize
         ensures { (result ≤ length self.entry.intervals.starts.now) × Started (in_order self.entry) p result }
     {
@@ -62,9 +93,7 @@ impl<'a> Ordered<'a> {
         while 0 < left {
             let half = left - left / 2;
             let mid = lo + half - 1;
-            let s = self.intervals.starts[mid];
-            let e = self.intervals.ends[mid];
-            if start_of(self.strand, s, e) <= p {
+            if self.start(mid) <= p {
                 lo = mid + 1;
             }
             left -= half;
@@ -84,9 +113,7 @@ impl<'a> Ordered<'a> {
             return self.last_unordered(p);
         }
         let index = self.started(p) - 1;
-        let s = self.intervals.starts[index];
-        let e = self.intervals.ends[index];
-        let start = start_of(self.strand, s, e);
+        let start = self.start(index);
         LastStarted { index, start }
     }
 
@@ -100,16 +127,20 @@ impl<'a> Ordered<'a> {
         let last = self.last_started::<IN_ORDER>(p);
         let i = last.index;
         let n = i + 1;
-        let s = self.intervals.starts[i];
-        let e = self.intervals.ends[i];
-        let past = end_of(self.strand, s, e);
+        let past = self.end(i);
         if p < past {
-            return ExonOrIntron::Exon(i, last.start, past);
+            return ExonOrIntron::Exon(Feature {
+                index: i,
+                start: last.start,
+                end: past,
+            });
         }
         if n < self.intervals.starts.len() {
-            let t = self.intervals.starts[n];
-            let f = self.intervals.ends[n];
-            return ExonOrIntron::Intron(i, past, start_of(self.strand, t, f));
+            return ExonOrIntron::Intron(Feature {
+                index: i,
+                start: past,
+                end: self.start(n),
+            });
         }
         ExonOrIntron::Outside
     }

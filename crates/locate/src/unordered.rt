@@ -6,7 +6,6 @@ ghost use Rattle.locate.specs.code.Ordered.{in_order};
 ghost use Rattle.locate.specs.code.Search.{LastStart};
 
 use super::search::{LastStarted, Ordered};
-use transcript::oriented::start_of;
 
 impl<'a> Ordered<'a> {
     // The last that starts at or before p, an oriented coordinate at or after the first start. The start goes along with the index,
@@ -17,16 +16,12 @@ impl<'a> Ordered<'a> {
         ensures { LastStart (in_order self.entry) p result.index result.start }
     {
         let mut index: usize = 0;
-        let s = self.intervals.starts[index];
-        let e = self.intervals.ends[index];
-        let mut start = start_of(self.strand, s, e);
+        let mut start = self.start(index);
         let mut left = self.intervals.starts.len();
         while 1 < left {
             let half = left / 2;
             let mid = index + half;
-            let t = self.intervals.starts[mid];
-            let f = self.intervals.ends[mid];
-            let at = start_of(self.strand, t, f);
+            let at = self.start(mid);
             if at <= p {
                 index = mid;
                 start = at;

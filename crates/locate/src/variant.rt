@@ -12,7 +12,7 @@ use transcript::Transcript;
 use transcript::admission::Admitted;
 use transcript::question::{bad_place, base_of};
 
-// The place of the base at `start`.
+// The place of the base at `start`. The parameters are the Rust's, as at footprint's `judge_interval`.
 pub fn locate_variant(
     chromosome: u16,
     start: u64,

@@ -5,27 +5,27 @@ use mathlib.Core.Path.{◌≡◌, refl, sym, ◌∙◌, ap}
 use mathlib.Core.Bool.{Bool, true, false, not}
 use mathlib.Core.List.{List, [], ◌∷◌, map}
 use native.Mathlib.Omega.{arith}
-use lib.ListN.{length}
 use lib.Dec.{leb, ltb, eqb}
-use borrow.Author.Tests.{ltb-true, ltb-false, leb-true, eqb-true, eqb-false, not-false}
+use borrow.Author.Tests.{ltb-true, ltb-false, leb-true, eqb-true, not-false}
 use Rattle.common.specs.Lists.{any}
-use Rattle.common.proofs.TestParts.{and_true, or_false, and_not_false, not_and_false, on_test, true_false, refuse_none, or_else_none}
+use Rattle.common.proofs.TestParts.{and_true, or_false, and_not_false, not_and_false, on_test, true_false}
 use Rattle.common.proofs.Lists.{any_none}
 use Rattle.transcript.specs.declared.Strand.{Strand}
 use Rattle.transcript.specs.declared.Exon.{Exon}
 use Rattle.transcript.specs.declared.CdsSegment.{CdsSegment}
 use Rattle.std.specs.Prelude.{Option, Some, None}
 use Rattle.transcript.specs.declared.CdsBounds.{CdsBounds}
-use Rattle.transcript.specs.Limits.{top, max_exons, max_selenocysteine, coordinate_limit, last_chromosome}
+use Rattle.transcript.specs.Limits.{top, coordinate_limit}
 use Rattle.transcript.specs.Transcript.{Transcript, cds_start, cds_end, has_bounds, is_empty}
 use Rattle.transcript.specs.Orient.{Interval, orient, orient_exon, orient_segment, oriented}
 use Rattle.transcript.specs.Bases.{inside_any, first_start, end_after, last_end}
-use Rattle.transcript.specs.Admission.{bad_counts, bad_exon, bad_segment, over_limit, bad_coordinates, ascending, bad_order, bad_bounds, bad_cds, bad_phase, bad_pad, segment_fault, bad_scalars, bad_cds_bounds, lacks_first, lacks_last, bad_segments, bad_selenocysteine, admission, Admitted}
+use Rattle.transcript.specs.Admission.{bad_exon, ascending, bad_cds, bad_cds_bounds, bad_segments, Admitted}
 use Rattle.transcript.specs.Cuts.{cut_of, cuts, same_cuts}
 use Rattle.transcript.proofs.Orient.{orient_some, orient_high, bounds_some, bounds_high, bounds_none}
 use Rattle.transcript.proofs.Ascends.{Ascends}
 use Rattle.transcript.proofs.Cuts.{cut_bases, same_cuts_lem, cuts_none}
 use Rattle.transcript.proofs.Facts.{Facts}
+use Rattle.transcript.proofs.AdmissionRows.{rows, counts, coordinates}
 
 -- exons with good edges, whose starts ascend
 pub ascending_exons : (σ : Strand) (e : ℕ) (xs : List Exon) → any bad_exon xs ≡ false → ascending e (map (orient_exon σ) xs) ≡ true → Ascends e (map (orient_exon σ) xs)
@@ -48,102 +48,6 @@ exons_high σ e (x ∷ xs) h l =
     let n = any_none bad_exon x xs h in
     let g = or_false (not (ltb x.genomic_start x.genomic_end)) (ltb coordinate_limit x.genomic_end) n.0 in
     exons_high σ (orient_exon σ x).end xs n.1 (orient_high σ x.genomic_start x.genomic_end (ltb-false coordinate_limit x.genomic_end g.1))
-
--- the rows: each says that its refusal did not come
-record Rows (t : Transcript) : Type 0 where
-  row_1 : bad_counts t ≡ false
-  row_2 : bad_coordinates t ≡ false
-  row_3 : bad_order (oriented t) ≡ false
-  row_4 : bad_bounds t (oriented t) ≡ false
-  row_5 : bad_cds t ≡ false
-  row_6 : bad_phase t ≡ false
-  row_7 : bad_pad (oriented t) ≡ false
-  row_8 : segment_fault t ≡ 0
-  row_10 : lacks_first (oriented t) ≡ false
-  row_11 : lacks_last (oriented t) ≡ false
-  row_12 : bad_segments t (oriented t) ≡ false
-  row_13 : bad_selenocysteine (oriented t) ≡ false
-
-rows : (t : Transcript) → Admitted t → Rows t
-unfolding admission
-rows t h =
-    let a = refuse_none (bad_counts t) 1 _ (omega arith) h in
-    let b = refuse_none (bad_coordinates t) 2 _ (omega arith) a.1 in
-    let c = refuse_none (bad_order (oriented t)) 3 _ (omega arith) b.1 in
-    let d = refuse_none (bad_bounds t (oriented t)) 4 _ (omega arith) c.1 in
-    let e = refuse_none (bad_cds t) 5 _ (omega arith) d.1 in
-    let f = refuse_none (bad_phase t) 6 _ (omega arith) e.1 in
-    let g = refuse_none (bad_pad (oriented t)) 7 _ (omega arith) f.1 in
-    let i = or_else_none (segment_fault t) _ g.1 in
-    let j = refuse_none (lacks_first (oriented t)) 10 _ (omega arith) i.1 in
-    let k = refuse_none (lacks_last (oriented t)) 11 _ (omega arith) j.1 in
-    let l = refuse_none (bad_segments t (oriented t)) 12 _ (omega arith) k.1 in
-    let m = refuse_none (bad_selenocysteine (oriented t)) 13 _ (omega arith) l.1 in
-    record {
-      row_1 = a.0;
-      row_2 = b.0;
-      row_3 = c.0;
-      row_4 = d.0;
-      row_5 = e.0;
-      row_6 = f.0;
-      row_7 = g.0;
-      row_8 = i.0;
-      row_10 = j.0;
-      row_11 = k.0;
-      row_12 = l.0;
-      row_13 = m.0;
-    }
-
-abbrev Counted : Transcript → Type 0
-Counted t =
-    (0 < length t.exons) × (length t.exons ≤ max_exons) × (t.model.exon_count ≡ length t.exons)
-    × (length t.segments ≤ length t.exons) × (length t.selenocysteine ≤ max_selenocysteine)
-
-counts : (t : Transcript) → bad_counts t ≡ false → Counted t
-unfolding bad_counts
-counts t h =
-    let a = or_false (eqb (length t.exons) 0) _ h in
-    let b = or_false (ltb max_exons (length t.exons)) _ a.1 in
-    let c = or_false (not (eqb t.model.exon_count (length t.exons))) _ b.1 in
-    let d = or_false (ltb (length t.exons) (length t.segments)) (ltb max_selenocysteine (length t.selenocysteine)) c.1 in
-    let z = eqb-false (length t.exons) 0 a.0 in (
-      omega arith,
-      ltb-false max_exons (length t.exons) b.0,
-      eqb-true t.model.exon_count (length t.exons) (not-false (eqb t.model.exon_count (length t.exons)) c.0),
-      ltb-false (length t.exons) (length t.segments) d.0,
-      ltb-false max_selenocysteine (length t.selenocysteine) d.1,
-    )
-
-abbrev Coordinates : Transcript → Type 0
-Coordinates t =
-    (any bad_exon t.exons ≡ false) × (any bad_segment t.segments ≡ false)
-    × (t.model.tx_start ≤ coordinate_limit) × (t.model.tx_end ≤ coordinate_limit)
-    × (cds_start t.model.cds ≤ coordinate_limit) × (cds_end t.model.cds ≤ coordinate_limit)
-    × (any over_limit t.selenocysteine ≡ false)
-    × (0 < t.model.chromosome) × (t.model.chromosome ≤ last_chromosome)
-
-coordinates : (t : Transcript) → bad_coordinates t ≡ false → Coordinates t
-unfolding bad_coordinates
-coordinates t h =
-    let i = or_false (any bad_exon t.exons) _ h in
-    let j = or_false (any bad_segment t.segments) _ i.1 in
-    let k = or_false (any over_limit t.selenocysteine) (bad_scalars t.model) j.1 in
-    let a = or_false (over_limit t.model.tx_start) _ k.1 in
-    let b = or_false (over_limit t.model.tx_end) _ a.1 in
-    let c = or_false (over_limit (cds_start t.model.cds)) _ b.1 in
-    let d = or_false (over_limit (cds_end t.model.cds)) _ c.1 in
-    let e = or_false (eqb t.model.chromosome 0) (ltb last_chromosome t.model.chromosome) d.1 in
-    let z = eqb-false t.model.chromosome 0 e.0 in (
-      i.0,
-      j.0,
-      ltb-false coordinate_limit t.model.tx_start a.0,
-      ltb-false coordinate_limit t.model.tx_end b.0,
-      ltb-false coordinate_limit (cds_start t.model.cds) c.0,
-      ltb-false coordinate_limit (cds_end t.model.cds) d.0,
-      k.0,
-      omega arith,
-      ltb-false last_chromosome t.model.chromosome e.1,
-    )
 
 -- bounds are there where segments are, and then the start is below the end
 pub cds_bounds : (b : Option CdsBounds) (segments : Bool) → bad_cds_bounds b segments ≡ false → (has_bounds b ≡ segments) × (segments ≡ true → cds_start b < cds_end b)

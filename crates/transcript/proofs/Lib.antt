@@ -5,6 +5,7 @@ pub mod Cutting
 pub mod Facts
 pub mod Whole
 pub mod Segmented
+pub mod AdmissionRows
 pub mod Admitted
 pub mod Between
 pub mod Listed

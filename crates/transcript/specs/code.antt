@@ -1,3 +1,4 @@
 pub mod Lent
 pub mod Judged
 pub mod Admitted
+pub mod Stranded

@@ -11,7 +11,7 @@ ghost use Rattle.transcript.specs.code.Judged.{IsCounted, IsBounded, frame_fault
 use super::order::bad_bounds;
 use super::oriented::{end_within, first_base, last_base, start_within};
 use super::segments::{holds_base, judge_indexes};
-use super::{CdsBounds, CdsSegments, Intervals, Strand, Transcript};
+use super::{CdsBounds, CdsSegments, Strand, Stranded, Transcript};
 use common::refusal::Refusal;
 
 // Whether segment k is [lo, hi), oriented, of exon i.
@@ -31,32 +31,30 @@ pub(crate) fn is_cut(
         let segment = orient strand (get_or bases.starts.now k 0) (get_or bases.ends.now k 0) in
         result ≡ same_cut (cut_at (get_or segments.entry.exon_indexes.now k 0) segment) (cut_at i (interval lo hi)) }
 {
-    let start = segments.bases.starts[k];
-    let end = segments.bases.ends[k];
+    let bases = Stranded {
+        intervals: segments.bases,
+        strand,
+    };
     segments.exon_indexes[k] as usize == i
-        && start_within(strand, start, end) == lo
-        && end_within(strand, start, end) == hi
+        && bases.start_within(k) == lo
+        && bases.end_within(k) == hi
 }
 
 // Whether the segments are the nonempty exon-CDS intersections in strand order, each with its exon's index.
-pub(crate) fn are_cuts(
-    exons: Intervals,
-    strand: Strand,
-    cds: CdsBounds,
-    segments: CdsSegments,
-) -> bool
-    requires { IsCuttable exons cds segments }
-    ensures { let bases = orient strand cds.cds_genomic_start cds.cds_genomic_end in
-        result ≡ same_cuts (cuts_in strand segments.entry) (cuts bases 0 (oriented_in strand exons.entry)) }
+pub(crate) fn are_cuts(exons: Stranded, cds: CdsBounds, segments: CdsSegments) -> bool
+    requires { IsCuttable exons.intervals cds segments }
+    ensures { let strand = exons.entry.strand in
+        let bases = orient strand cds.cds_genomic_start cds.cds_genomic_end in
+        result ≡ same_cuts (cuts_in strand segments.entry) (cuts bases 0 (oriented_in strand exons.entry.intervals)) }
 {
+    let strand = exons.strand;
     let first = start_within(strand, cds.cds_genomic_start, cds.cds_genomic_end);
     let past = end_within(strand, cds.cds_genomic_start, cds.cds_genomic_end);
+    // Moves past an exon that holds a part of the CDS alone: segments taken from an iterator by hand are no plainer.
     let mut k = 0;
-    for i in 0..exons.starts.len() {
-        let start = exons.starts[i];
-        let end = exons.ends[i];
-        let lo = start_within(strand, start, end).max(first);
-        let hi = end_within(strand, start, end).min(past);
+    for i in 0..exons.intervals.starts.len() {
+        let lo = exons.start_within(i).max(first);
+        let hi = exons.end_within(i).min(past);
         if lo < hi {
             if k == segments.exon_indexes.len() || !is_cut(segments, strand, k, i, lo, hi) {
                 return false;
@@ -69,25 +67,26 @@ pub(crate) fn are_cuts(
 
 // 10, 11, 12: the first and the last coding base, and the segments.
 pub(crate) fn judge_cds(
-    exons: Intervals,
-    strand: Strand,
+    exons: Stranded,
     cds: CdsBounds,
     segments: CdsSegments,
 ) -> Result<(), Refusal>
-    requires cuttable { IsCuttable exons cds segments }
+    requires cuttable { IsCuttable exons.intervals cds segments }
     requires ordered { cds.cds_genomic_start < cds.cds_genomic_end }
-    ensures { let bases = orient strand cds.cds_genomic_start cds.cds_genomic_end in
-        result ≡ outcome (cds_fault true bases (oriented_in strand exons.entry) (cuts_in strand segments.entry)) tt }
+    ensures { let strand = exons.entry.strand in
+        let bases = orient strand cds.cds_genomic_start cds.cds_genomic_end in
+        result ≡ outcome (cds_fault true bases (oriented_in strand exons.entry.intervals) (cuts_in strand segments.entry)) tt }
 {
+    let strand = exons.strand;
     let first = first_base(strand, cds.cds_genomic_start, cds.cds_genomic_end);
-    if !holds_base(exons, first) {
+    if !holds_base(exons.intervals, first) {
         return Err(Refusal::FirstCodingBase);
     }
     let last = last_base(strand, cds.cds_genomic_start, cds.cds_genomic_end);
-    if !holds_base(exons, last) {
+    if !holds_base(exons.intervals, last) {
         return Err(Refusal::LastCodingBase);
     }
-    if !are_cuts(exons, strand, cds, segments) {
+    if !are_cuts(exons, cds, segments) {
         return Err(Refusal::Segments);
     }
     Ok(())
@@ -102,18 +101,14 @@ pub(crate) fn judge_segments(transcript: &Transcript) -> Result<(), Refusal>
     let Some(cds) = transcript.model.cds else {
         return Ok(());
     };
-    let exons = transcript.exons;
     let segments = transcript.segments;
-    let strand = transcript.model.strand;
-    if !bad_bounds(
-        segments.bases,
-        strand,
-        cds.cds_genomic_start,
-        cds.cds_genomic_end,
-    ) && are_cuts(exons, strand, cds, segments)
+    let exons = Stranded::exons(transcript);
+    let bases = Stranded::segments(transcript);
+    if !bad_bounds(bases, cds.cds_genomic_start, cds.cds_genomic_end)
+        && are_cuts(exons, cds, segments)
     {
         return Ok(());
     }
-    judge_indexes(exons.starts.len(), segments.exon_indexes)?;
-    judge_cds(exons, strand, cds, segments)
+    judge_indexes(transcript.exons.starts.len(), segments.exon_indexes)?;
+    judge_cds(exons, cds, segments)
 }

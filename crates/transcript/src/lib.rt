@@ -65,6 +65,13 @@ pub struct Intervals<'a> {
     pub ends: &'a [u64],
 }
 
+// Intervals with the strand that they lie on, so that each can be read in oriented coordinates.
+#[derive(Clone, Copy)]
+pub struct Stranded<'a> {
+    pub intervals: Intervals<'a>,
+    pub strand: Strand,
+}
+
 // CDS segments, lent as a list for each field: so callers in C lend them.
 #[derive(Clone, Copy)]
 pub struct CdsSegments<'a> {

@@ -9,41 +9,38 @@ ghost use Rattle.transcript.specs.code.Lent.{exons_in, oriented_in, phases_over,
 ghost use Rattle.transcript.specs.code.Judged.{IsCounted, IsBounded, order_fault, frame_fault};
 
 use super::oriented::{end_within, start_within};
-use super::{CdsBounds, Intervals, Strand, Transcript};
+use super::{CdsBounds, Stranded, Transcript};
 use common::refusal::Refusal;
 
 // Whether each exon starts at or after the end of the one before it, in strand order.
 // What lists have so far is found step by step while a transcript is judged: no type holds before Admitted.
-pub(crate) fn in_order(exons: Intervals, strand: Strand) -> bool
-    requires even { length exons.starts.now ≡ length exons.ends.now }
-    requires good_edges { any bad_exon (exons_in exons) ≡ false }
-    ensures { result ≡ ascending 0 (oriented_in strand exons.entry) }
+pub(crate) fn in_order(exons: Stranded) -> bool
+    requires even { length exons.intervals.starts.now ≡ length exons.intervals.ends.now }
+    requires good_edges { any bad_exon (exons_in exons.intervals) ≡ false }
+    ensures { result ≡ ascending 0 (oriented_in exons.entry.strand exons.entry.intervals) }
 {
     let mut edge: u64 = 0;
-    for i in 0..exons.starts.len() {
-        let start = exons.starts[i];
-        let end = exons.ends[i];
-        if start_within(strand, start, end) < edge {
+    for i in 0..exons.intervals.starts.len() {
+        if exons.start_within(i) < edge {
             return false;
         }
-        edge = end_within(strand, start, end);
+        edge = exons.end_within(i);
     }
     true
 }
 
 // 4: the transcript's bounds are not the outer exon edges.
-pub(crate) fn bad_bounds(exons: Intervals, strand: Strand, tx_start: u64, tx_end: u64) -> bool
-    requires even { length exons.starts.now ≡ length exons.ends.now }
-    requires some { 0 < length exons.starts.now }
-    requires good_edges { any bad_exon (exons_in exons) ≡ false }
+pub(crate) fn bad_bounds(exons: Stranded, tx_start: u64, tx_end: u64) -> bool
+    requires even { length exons.intervals.starts.now ≡ length exons.intervals.ends.now }
+    requires some { 0 < length exons.intervals.starts.now }
+    requires good_edges { any bad_exon (exons_in exons.intervals) ≡ false }
     requires within { (tx_start ≤ coordinate_limit) × (tx_end ≤ coordinate_limit) }
-    ensures { result ≡ not_outer (orient strand tx_start tx_end) (oriented_in strand exons.entry) }
+    ensures { let strand = exons.entry.strand in
+        result ≡ not_outer (orient strand tx_start tx_end) (oriented_in strand exons.entry.intervals) }
 {
-    let starts = exons.starts;
-    let ends = exons.ends;
-    let last = starts.len() - 1;
-    start_within(strand, tx_start, tx_end) != start_within(strand, starts[0], ends[0])
-        || end_within(strand, tx_start, tx_end) != end_within(strand, starts[last], ends[last])
+    let last = exons.intervals.starts.len() - 1;
+    start_within(exons.strand, tx_start, tx_end) != exons.start_within(0)
+        || end_within(exons.strand, tx_start, tx_end) != exons.end_within(last)
 }
 
 // 5: bounds without segments or the reverse, or start not below end.
@@ -86,10 +83,11 @@ pub(crate) fn judge_exons(transcript: &Transcript) -> Result<(), Refusal>
     ensures { result ≡ outcome (order_fault transcript.now) tt }
 {
     let model = transcript.model;
-    if !in_order(transcript.exons, model.strand) {
+    let exons = Stranded::exons(transcript);
+    if !in_order(exons) {
         return Err(Refusal::ExonOrder);
     }
-    if bad_bounds(transcript.exons, model.strand, model.tx_start, model.tx_end) {
+    if bad_bounds(exons, model.tx_start, model.tx_end) {
         return Err(Refusal::OuterBounds);
     }
     Ok(())

@@ -4,6 +4,7 @@ use Rattle.common.specs.Lists.{any}
 use Rattle.transcript.specs.declared.Strand.{Strand}
 use Rattle.transcript.specs.code.Lent.{lent_exons}
 use Rattle.locate.specs.declared.ExonOrIntron.{ExonOrIntron}
+use Rattle.locate.specs.declared.Feature.{Feature}
 use Rattle.locate.specs.declared.VariantLocation.{VariantLocation}
 use Rattle.footprint.specs.declared.Ranges.{Ranges}
 use Rattle.transcript.specs.Limits.{top, max_exons}
@@ -11,6 +12,7 @@ use Rattle.transcript.specs.Transcript.{exons_of}
 use Rattle.transcript.specs.Orient.{Interval, interval, Oriented}
 use Rattle.transcript.specs.Admission.{bad_exon, ascending}
 use Rattle.locate.specs.Find.{Found, in_exon, in_intron, outside}
+use Rattle.locate.specs.code.Features.{feature}
 
 -- intervals of good edges, in order
 pub record Ready (strand : Strand) (starts ends : List ℕ) : Type 0 where
@@ -30,25 +32,26 @@ pub record LastStart (xs : List Interval) (p i start : ℕ) : Type 0 where
   pub started : Started xs p (i + 1)
   pub start_is : start ≡ (get_or xs i (interval 0 0)).start
 
--- the answer as an index and two edges
+-- the answer, as the code has it
 abbrev pub exon_or_intron : Found → ExonOrIntron
-exon_or_intron (in_exon i x) = ExonOrIntron.Exon i x.start x.end
-exon_or_intron (in_intron i gap) = ExonOrIntron.Intron i gap.start gap.end
+exon_or_intron (in_exon i x) = ExonOrIntron.Exon (feature i x)
+exon_or_intron (in_intron i gap) = ExonOrIntron.Intron (feature i gap)
 exon_or_intron outside = ExonOrIntron.Outside
 
 -- what an answer about a base has: the exon's own edges, or a gap within the limit, around the base
 abbrev pub FoundAt : List Interval → ℕ → ExonOrIntron → Type 0
-FoundAt xs p (ExonOrIntron.Exon i s e) = (i < length xs) × (s ≡ (get_or xs i (interval 0 0)).start) × (e ≡ (get_or xs i (interval 0 0)).end) × (s ≤ p) × (p < e)
-FoundAt xs p (ExonOrIntron.Intron i s e) = (i < max_exons) × (s ≤ p) × (p < e) × (e ≤ top)
+FoundAt xs p (ExonOrIntron.Exon x) =
+    (x.index < length xs) × (x.start ≡ (get_or xs x.index (interval 0 0)).start) × (x.end ≡ (get_or xs x.index (interval 0 0)).end) × (x.start ≤ p) × (p < x.end)
+FoundAt xs p (ExonOrIntron.Intron x) = (x.index < max_exons) × (x.start ≤ p) × (p < x.end) × (x.end ≤ top)
 FoundAt xs p ExonOrIntron.Outside = Unit {0}
 
--- exon i of a transcript is [start, end) and holds the base
-pub record Holds (o : Oriented) (i start end p : ℕ) : Type 0 where
-  pub index : i < length o.exons
-  pub start_is : start ≡ (get_or o.exons i (interval 0 0)).start
-  pub end_is : end ≡ (get_or o.exons i (interval 0 0)).end
-  pub from : start ≤ p
-  pub to : p < end
+-- an exon of a transcript, which holds the base
+pub record Holds (o : Oriented) (x : Feature) (p : ℕ) : Type 0 where
+  pub index : x.index < length o.exons
+  pub start_is : x.start ≡ (get_or o.exons x.index (interval 0 0)).start
+  pub end_is : x.end ≡ (get_or o.exons x.index (interval 0 0)).end
+  pub from : x.start ≤ p
+  pub to : p < x.end
 
 -- outside a transcript, d bases upstream or downstream of it
 abbrev pub upstream_by : Ranges → ℕ → VariantLocation

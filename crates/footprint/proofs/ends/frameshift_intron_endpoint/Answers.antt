@@ -1,41 +1,37 @@
-use Rattle.std.proofs.Common.{refl, sym, ◌∙◌, ap}
+use Rattle.std.proofs.Common.{◌∙◌, ap}
 use Rattle.std.proofs.lemmas.Result.{err_from_is_err_and}
-use Rattle.common.proofs.Outcome.{answered, passed_on}
+use Rattle.common.proofs.Outcome.{answered}
+use Rattle.transcript.specs.declared.Transcript.{Transcript as Lent}
 use Rattle.transcript.specs.Transcript.{transcript_of}
 use Rattle.transcript.specs.Orient.{orient, oriented}
 use Rattle.transcript.specs.Question.{interval_refusal}
+use Rattle.transcript.proofs.Lending.{turns_away}
 use Rattle.footprint.specs.ShortIntron.{frameshift_intron_endpoint}
+use Rattle.footprint.specs.code.Lent.{span_of}
 use Rattle.footprint.specs.Question.{short_intron}
-use Rattle.footprint.proofs.Asked.{ready}
+use Rattle.footprint.proofs.Asked.{Ready, ready}
 use Rattle.footprint.proofs.ends.frameshift_intron_endpoint.Goals as goal
+use Rattle.footprint.proofs.ends.frameshift_intron_endpoint.Goals.{In_ok-admitted}
 
-pub returns-in_err-judge_interval : goal.returns-in_err-judge_interval
+pub returns-in_err-admitted : goal.returns-in_err-admitted
 unfolding short_intron
-returns-in_err-judge_interval c =
-    let t = transcript_of c.args.transcript.now in
+returns-in_err-admitted c =
+    let x = c.args.transcript.now in let t = transcript_of x in let r = c.judge_interval in
     let p = err_from_is_err_and c.from_residual.result c.from_residual.ensures.1 in
-    rw (p.1, p.2) (passed_on tt (frameshift_intron_endpoint (oriented t) (orient t.model.strand c.args.start c.args.end)) (interval_refusal t c.args.chromosome c.args.start c.args.end) c.in_err-judge_interval.field-0.0 (sym c.judge_interval.ensures ∙ c.in_err-judge_interval.was) _ refl)
+    rw (p.1, p.2) (turns_away x (interval_refusal t c.args.chromosome c.args.start c.args.end) r.result r.ensures (frameshift_intron_endpoint (oriented t) (orient t.model.strand c.args.start c.args.end)) c.in_err-admitted.field-0.0 c.in_err-admitted.was)
+
+-- what the question has
+asked : (c : In_ok-admitted) → Ready c.args.transcript.now c.in_ok-admitted.admitted c.args.chromosome c.args.start c.args.end
+asked c = ready c.args.transcript.now c.args.chromosome c.args.start c.args.end c.judge_interval.result c.in_ok-admitted.admitted c.judge_interval.ensures c.in_ok-admitted.was
 
 pub span_of-q-requires : goal.span_of-q-requires
-span_of-q-requires c =
-    let k = ready c.args.transcript.now c.args.chromosome c.args.start c.args.end c.judge_interval.result c.in_ok-judge_interval.field-0 c.judge_interval.ensures c.in_ok-judge_interval.was in
-    (k.start_low, k.end_low)
-
-pub endpoint_of-requires-clause-even : goal.endpoint_of-requires-clause-even
-endpoint_of-requires-clause-even c =
-    let k = ready c.args.transcript.now c.args.chromosome c.args.start c.args.end c.judge_interval.result c.in_ok-judge_interval.field-0 c.judge_interval.ensures c.in_ok-judge_interval.was in
-    k.even
-
-pub endpoint_of-requires-clause-few : goal.endpoint_of-requires-clause-few
-endpoint_of-requires-clause-few c =
-    let k = ready c.args.transcript.now c.args.chromosome c.args.start c.args.end c.judge_interval.result c.in_ok-judge_interval.field-0 c.judge_interval.ensures c.in_ok-judge_interval.was in
-    k.few
+span_of-q-requires c = let k = asked (goal.at.span_of-q-requires c).In_ok-admitted in (k.start_low, k.end_low)
 
 pub returns : goal.returns
 unfolding short_intron
 returns c =
     let t = transcript_of c.args.transcript.now in
     let q = orient t.model.strand c.args.start c.args.end in
-    let k = ready c.args.transcript.now c.args.chromosome c.args.start c.args.end c.judge_interval.result c.in_ok-judge_interval.field-0 c.judge_interval.ensures c.in_ok-judge_interval.was in
-    rw (c.endpoint_of.ensures (oriented t) k.exons ∙ ap (frameshift_intron_endpoint (oriented t)) c.span_of-q.ensures)
+    let k = asked (goal.at.returns c).In_ok-admitted in
+    rw (c.endpoint_of.ensures ∙ ap (λ (s : Lent). frameshift_intron_endpoint (oriented (transcript_of s)) (span_of c.span_of-q.result)) k.same ∙ ap (frameshift_intron_endpoint (oriented t)) c.span_of-q.ensures)
     (answered (frameshift_intron_endpoint (oriented t) q) (interval_refusal t c.args.chromosome c.args.start c.args.end) k.none)

@@ -8,6 +8,6 @@ returns-then-n-i c =
     let x = c.args.exons in
     let e = c.min-n.ensures in
     elim c.then-n-i.branch [
-      | then-n-i-via-then-n-i w ↦ gap_none c.args.strand x.starts.now x.ends.now c.args.i (omega arith)
-      | then-n-i-via-else-n-i+then-n-i-lt2 w ↦ gap_none c.args.strand x.starts.now x.ends.now c.args.i (omega arith)
+      | then-n-i-via-then-n-i w ↦ gap_none x.strand x.intervals.starts.now x.intervals.ends.now c.args.i (omega arith)
+      | then-n-i-via-else-n-i+then-n-i-lt2 w ↦ gap_none x.strand x.intervals.starts.now x.intervals.ends.now c.args.i (omega arith)
     ]

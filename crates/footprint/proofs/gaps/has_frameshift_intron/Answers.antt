@@ -9,4 +9,4 @@ pub returns : goal.returns
 returns c =
     let x = c.args.exons in let l = c.loop-i in
     let e = c.min-n.ensures in let f = c.saturating_sub-i-end.ensures in
-    sym (any_end is_frameshift_gap (gaps_in c.args.strand x) l.i (gap_end c.args.strand x.starts.now x.ends.now l.i (omega arith) (omega arith))) ∙ l.invariant
+    sym (any_end is_frameshift_gap (gaps_in x.strand x.intervals) l.i (gap_end x.strand x.intervals.starts.now x.intervals.ends.now l.i (omega arith) (omega arith))) ∙ l.invariant

@@ -5,4 +5,4 @@ use Rattle.footprint.specs.ShortIntron.{is_frameshift_gap}
 use Rattle.footprint.proofs.gaps.has_frameshift_intron.Given as goal
 
 abbrev pub invariant-loop-i : goal.invariant-loop-i
-invariant-loop-i l = any is_frameshift_gap (drop l.i (gaps_in l.strand l.exons)) ≡ any is_frameshift_gap (gaps_in l.strand l.exons)
+invariant-loop-i l = any is_frameshift_gap (drop l.i (gaps_in l.exons.strand l.exons.intervals)) ≡ any is_frameshift_gap (gaps_in l.exons.strand l.exons.intervals)

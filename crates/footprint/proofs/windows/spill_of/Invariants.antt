@@ -5,4 +5,5 @@ use Rattle.footprint.proofs.windows.spill_of.Given as goal
 
 abbrev pub invariant-loop-i : goal.invariant-loop-i
 invariant-loop-i l =
-    Gathered donor_window (span_of l.q) (gaps_in l.strand l.exons) l.donor l.i × Gathered acceptor_window (span_of l.q) (gaps_in l.strand l.exons) l.acceptor l.i
+    let t = l.fn.admitted.transcript.now in let gs = gaps_in t.model.strand t.exons in
+    Gathered donor_window (span_of l.q) gs l.donor l.i × Gathered acceptor_window (span_of l.q) gs l.acceptor l.i

@@ -7,7 +7,8 @@ use Rattle.locate.proofs.index.index_of.Goals.{Start}
 pub scalars_of-index-requires : goal.scalars_of-index-requires
 scalars_of-index-requires c =
     let s = c.sum_up in
-    record { sums = (on c.args.admitted.transcript.now exons_summed c.args.admitted.admitted s.new.cumulative_exons s.ensures.sums.0, on c.args.admitted.transcript.now cds_summed c.args.admitted.admitted s.new.cumulative_cds s.ensures.sums.1); short = c.has_frameshift_intron.ensures }
+    let x = c.exons.ensures in
+    record { sums = (on c.args.admitted.transcript.now exons_summed c.args.admitted.admitted s.new.cumulative_exons s.ensures.sums.0, on c.args.admitted.transcript.now cds_summed c.args.admitted.admitted s.new.cumulative_cds s.ensures.sums.1); short = rw (x.0, x.1) at c.has_frameshift_intron.ensures }
 
 pub selenocysteine_codons-codons-requires : goal.selenocysteine_codons-codons-requires
 selenocysteine_codons-codons-requires c =

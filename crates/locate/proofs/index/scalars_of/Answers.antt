@@ -4,7 +4,8 @@ use Rattle.transcript.specs.Transcript.{cds_start, cds_end}
 use Rattle.transcript.specs.Orient.{orient}
 use Rattle.transcript.proofs.OnParts.{on}
 use Rattle.locate.proofs.LentTranscript.{ad, segment_count, head_is}
-use Rattle.locate.proofs.LentIndex.{exonic, first_holding, last_bound, scalars_are}
+use Rattle.locate.proofs.LentIndex.{exonic}
+use Rattle.locate.proofs.LentScalars.{first_holding, last_bound, scalars_are}
 use Rattle.locate.proofs.index.scalars_of.Goals as goal
 use Rattle.locate.proofs.index.scalars_of.Goals.{After-start_of-from, Start}
 

@@ -8,19 +8,19 @@ use Rattle.locate.proofs.Introns.{far_donor, far_acceptor, near_donor, near_acce
 use Rattle.locate.proofs.intronic.splice_region.Goals as goal
 
 pub overflow_sub-result : goal.overflow_sub-result
-overflow_sub-result c = minus_fits c.args.a (omega arith)
+overflow_sub-result c = let d = c.args.distances in let w = d.low in minus_fits d.acceptor (omega arith)
 
 pub returns-then-donor-d : goal.returns-then-donor-d
-returns-then-donor-d c = let x = c.args in ap (λ (z : ℤ). SpliceRegion x.i Acceptor z) (minus_is x.a (omega arith)) ∙ far_donor x.ranges x.i x.d x.a (omega arith)
+returns-then-donor-d c = let x = c.args in let d = x.distances in let w = d.low in ap (λ (z : ℤ). SpliceRegion x.i Acceptor z) (minus_is d.acceptor (omega arith)) ∙ far_donor x.ranges x.i d.donor d.acceptor (omega arith)
 
 pub returns-then-acceptor-a : goal.returns-then-acceptor-a
-returns-then-acceptor-a c = let x = c.args in ap (λ (z : ℤ). SpliceRegion x.i Donor z) (counted x.d (omega arith)) ∙ far_acceptor x.ranges x.i x.d x.a (omega arith) (omega arith)
+returns-then-acceptor-a c = let x = c.args in let d = x.distances in let w = d.low in ap (λ (z : ℤ). SpliceRegion x.i Donor z) (counted d.donor (omega arith)) ∙ far_acceptor x.ranges x.i d.donor d.acceptor (omega arith) (omega arith)
 
 pub returns-then-d-a : goal.returns-then-d-a
-returns-then-d-a c = let x = c.args in ap (λ (z : ℤ). SpliceRegion x.i Donor z) (counted x.d (omega arith)) ∙ near_donor x.ranges x.i x.d x.a (omega arith) (omega arith) (omega arith)
+returns-then-d-a c = let x = c.args in let d = x.distances in let w = d.low in ap (λ (z : ℤ). SpliceRegion x.i Donor z) (counted d.donor (omega arith)) ∙ near_donor x.ranges x.i d.donor d.acceptor (omega arith) (omega arith) (omega arith)
 
 pub overflow_sub-result-2 : goal.overflow_sub-result-2
-overflow_sub-result-2 c = minus_fits c.args.a (omega arith)
+overflow_sub-result-2 c = let d = c.args.distances in let w = d.low in minus_fits d.acceptor (omega arith)
 
 pub returns : goal.returns
-returns c = let x = c.args in ap (λ (z : ℤ). SpliceRegion x.i Acceptor z) (minus_is x.a (omega arith)) ∙ near_acceptor x.ranges x.i x.d x.a (omega arith) (omega arith) (omega arith)
+returns c = let x = c.args in let d = x.distances in let w = d.low in ap (λ (z : ℤ). SpliceRegion x.i Acceptor z) (minus_is d.acceptor (omega arith)) ∙ near_acceptor x.ranges x.i d.donor d.acceptor (omega arith) (omega arith) (omega arith)

@@ -11,4 +11,4 @@ abbrev pub sums : List ℕ → List ℕ → List ℕ
 sums starts ends = cumulative 0 (map exon_size (exons_of starts ends))
 
 abbrev pub invariant-loop-i : goal.invariant-loop-i
-invariant-loop-i l = l.acc ≡ get_or (sums l.intervals.starts.now l.intervals.ends.now) l.i 0
+invariant-loop-i l = l.acc ≡ get_or (sums l.ordered.intervals.starts.now l.ordered.intervals.ends.now) l.i 0

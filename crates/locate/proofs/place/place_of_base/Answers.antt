@@ -30,18 +30,18 @@ find-found-requires g c = (let x = c.exons.ensures in record { some = rw x.1 (on
 pub exon_base-requires : goal.exon_base-requires
 exon_base-requires g c =
     let k = subst (At (goal.at.exon_base-requires g c).Start) c.in-Exon.is (found (goal.at.exon_base-requires g c).After-find-found).1 in
-    record { indexed = c.requires.indexed; holds = on c.args.admitted.transcript.now holds_exon c.args.admitted.admitted c.args.p c.start_of-first.result c.end_of-last.result c.start_of-first.ensures c.end_of-last.ensures _ _ _ k }
+    record { indexed = c.requires.indexed; holds = on c.args.admitted.transcript.now holds_exon c.args.admitted.admitted c.args.p c.start_of-first.result c.end_of-last.result c.start_of-first.ensures c.end_of-last.ensures _ k }
 
 pub classify_intronic-requires : goal.classify_intronic-requires
 classify_intronic-requires g c = subst (At (goal.at.classify_intronic-requires g c).Start) c.in-Intron.is (found (goal.at.classify_intronic-requires g c).After-find-found).1
 
 pub returns-in-Exon : goal.returns-in-Exon
 returns-in-Exon g c =
-    c.exon_base.ensures ∙ on c.args.admitted.transcript.now is_exon_lem c.args.admitted.admitted c.args.p c.start_of-first.result c.end_of-last.result c.start_of-first.ensures c.end_of-last.ensures c.args.ranges _ _ _ (sym (found (goal.at.returns-in-Exon g c).After-find-found).0 ∙ c.in-Exon.is) c.if-p-first.false c.if-last-p.false
+    c.exon_base.ensures ∙ on c.args.admitted.transcript.now is_exon_lem c.args.admitted.admitted c.args.p c.start_of-first.result c.end_of-last.result c.start_of-first.ensures c.end_of-last.ensures c.args.ranges _ (sym (found (goal.at.returns-in-Exon g c).After-find-found).0 ∙ c.in-Exon.is) c.if-p-first.false c.if-last-p.false
 
 pub returns-in-Intron : goal.returns-in-Intron
 returns-in-Intron g c =
-    c.classify_intronic.ensures ∙ on c.args.admitted.transcript.now is_intron c.args.admitted.admitted c.args.p c.start_of-first.result c.end_of-last.result c.start_of-first.ensures c.end_of-last.ensures c.args.ranges _ _ _ (sym (found (goal.at.returns-in-Intron g c).After-find-found).0 ∙ c.in-Intron.is) c.if-p-first.false c.if-last-p.false
+    c.classify_intronic.ensures ∙ on c.args.admitted.transcript.now is_intron c.args.admitted.admitted c.args.p c.start_of-first.result c.end_of-last.result c.start_of-first.ensures c.end_of-last.ensures c.args.ranges _ (sym (found (goal.at.returns-in-Intron g c).After-find-found).0 ∙ c.in-Intron.is) c.if-p-first.false c.if-last-p.false
 
 pub returns-in-Outside : goal.returns-in-Outside
 returns-in-Outside g c =

@@ -35,7 +35,7 @@ find-found-requires c =
     record { some = omega arith; ends_bound = past_first (goal.at.find-found-requires c).Start }
 
 -- what is known of the interval that was found
-at : (c : In-Exon) → FoundAt (lent_exons c.args.segments.now.strand c.args.segments.now.intervals.starts.now c.args.segments.now.intervals.ends.now) c.args.p (ExonOrIntron.Exon c.in-Exon.i c.in-Exon.start c.in-Exon.end)
+at : (c : In-Exon) → FoundAt (lent_exons c.args.segments.now.strand c.args.segments.now.intervals.starts.now c.args.segments.now.intervals.ends.now) c.args.p (ExonOrIntron.Exon c.in-Exon.exon)
 at c =
     subst (λ (r : ExonOrIntron). FoundAt (lent_exons c.args.segments.now.strand c.args.segments.now.intervals.starts.now c.args.segments.now.intervals.ends.now) c.args.p r) c.in-Exon.is c.find-found.ensures.1
 
@@ -45,11 +45,11 @@ offset_at-requires c =
     let i = k.0 in let q = k.2 in let s = k.3 in let t = k.4 in
     let f = c.requires.sums.reach in
     let n = count c.args.segments.now.strand c.args.segments.now.intervals.starts.now c.args.segments.now.intervals.ends.now c.args.segments.now.ready in
-    let e = end_at_lem c.args.segments.now.strand c.args.segments.now.intervals.starts.now c.args.segments.now.intervals.ends.now c.args.segments.now.ready c.in-Exon.i (omega arith) in
-    let u = end_top c.args.segments.now.strand c.args.segments.now.intervals.starts.now c.args.segments.now.intervals.ends.now c.args.segments.now.ready c.in-Exon.i (omega arith) in (
+    let e = end_at_lem c.args.segments.now.strand c.args.segments.now.intervals.starts.now c.args.segments.now.intervals.ends.now c.args.segments.now.ready c.in-Exon.exon.index (omega arith) in
+    let u = end_top c.args.segments.now.strand c.args.segments.now.intervals.starts.now c.args.segments.now.intervals.ends.now c.args.segments.now.ready c.in-Exon.exon.index (omega arith) in (
       omega arith,
       sum_low (lent_exons c.args.segments.now.strand c.args.segments.now.intervals.starts.now c.args.segments.now.intervals.ends.now) c.args.sums.now (ascends c.args.segments.now.strand c.args.segments.now.intervals.starts.now c.args.segments.now.intervals.ends.now c.args.segments.now.ready) c.requires.sums
-          (high c.args.segments.now.strand c.args.segments.now.intervals.starts.now c.args.segments.now.intervals.ends.now c.args.segments.now.ready) c.in-Exon.i (omega arith),
+          (high c.args.segments.now.strand c.args.segments.now.intervals.starts.now c.args.segments.now.intervals.ends.now c.args.segments.now.ready) c.in-Exon.exon.index (omega arith),
       s,
       omega arith,
     )
@@ -59,11 +59,11 @@ returns-in-Exon c =
     let k = at (goal.at.returns-in-Exon c).In-Exon in
     let s = k.3 in let t = k.4 in let f = k.1 in let e = k.2 in
     c.offset_at.ensures ∙ rw f
-    (read_sum (lent_exons c.args.segments.now.strand c.args.segments.now.intervals.starts.now c.args.segments.now.intervals.ends.now) c.args.sums.now (ascends c.args.segments.now.strand c.args.segments.now.intervals.starts.now c.args.segments.now.intervals.ends.now c.args.segments.now.ready) c.requires.sums c.in-Exon.i c.args.p k.0 (omega arith) (omega arith))
+    (read_sum (lent_exons c.args.segments.now.strand c.args.segments.now.intervals.starts.now c.args.segments.now.intervals.ends.now) c.args.sums.now (ascends c.args.segments.now.strand c.args.segments.now.intervals.starts.now c.args.segments.now.intervals.ends.now c.args.segments.now.ready) c.requires.sums c.in-Exon.exon.index c.args.p k.0 (omega arith) (omega arith))
 
 pub returns-in-Intron : goal.returns-in-Intron
 returns-in-Intron c =
-    absurd (true_false (sym (not_between (goal.at.returns-in-Intron c).Start _ (held_intron _ _ _ _ (sym c.find-found.ensures.0 ∙ c.in-Intron.is)))))
+    absurd (true_false (sym (not_between (goal.at.returns-in-Intron c).Start _ (held_intron _ _ (sym c.find-found.ensures.0 ∙ c.in-Intron.is)))))
 
 pub returns-in-Outside : goal.returns-in-Outside
 returns-in-Outside c =

@@ -1,5 +1,5 @@
 use Prim.Native.Nat.{◌≤◌, ◌<◌}
-use mathlib.Core.Path.{◌≡◌, ◌∙◌, sym}
+use mathlib.Core.Path.{◌≡◌, ◌∙◌}
 use native.Mathlib.Omega.{arith}
 use lib.ListN.{length, get_or}
 use borrow.Author.Tests.{not-true, not-false}
@@ -10,12 +10,11 @@ use Rattle.transcript.specs.Bases.{inside}
 use Rattle.transcript.specs.code.Lent.{lent_exons, oriented_in}
 use Rattle.transcript.proofs.Listed.{nowhere}
 use Rattle.transcript.proofs.Orient.{inside_start, inside_end}
-use Rattle.locate.proofs.Searching.{ascends, count, start_at_lem, end_at_lem, end_top, high}
+use Rattle.locate.proofs.Searching.{ascends, count, end_at_lem, end_top, high}
 use Rattle.locate.proofs.Offset.{read_sum, sum_low}
 use Rattle.std.proofs.Common.{ap}
 use Rattle.std.specs.Prelude.{not}
 use Rattle.locate.proofs.positions.utr5_length.Goals as goal
-use Rattle.locate.proofs.positions.utr5_length.Goals.{After-start_of, Else-not-coding}
 
 -- where there is a CDS: exon `first` holds its first base
 held : (x : Intervals) (σ : Strand) (coding : Bool) (first from : ℕ) → (coding ≡ true → (first < length x.starts.now) × (inside from (get_or (oriented_in σ x) first nowhere) ≡ true)) → coding ≡ true
@@ -27,29 +26,15 @@ held x σ coding first from h e =
 pub returns-then-not-coding : goal.returns-then-not-coding
 returns-then-not-coding c = rw (not-true c.args.coding (ap not c.if-not-coding.true))
 
-pub offset_bounds-exons-first : goal.offset_bounds-exons-first
-offset_bounds-exons-first c = let l = (held c.args.exons.intervals c.args.exons.strand c.args.coding c.args.first c.args.from c.requires.first_held (not-false c.args.coding (ap not c.if-not-coding.false))).0 in let f = c.args.exons.ready.few in omega arith
-
-pub bounds-exons-first : goal.bounds-exons-first
-bounds-exons-first c = (held c.args.exons.intervals c.args.exons.strand c.args.coding c.args.first c.args.from c.requires.first_held (not-false c.args.coding (ap not c.if-not-coding.false))).0
-
-pub offset_bounds-exons-first-2 : goal.offset_bounds-exons-first-2
-offset_bounds-exons-first-2 c = let l = (held c.args.exons.intervals c.args.exons.strand c.args.coding c.args.first c.args.from c.requires.first_held (not-false c.args.coding (ap not c.if-not-coding.false))).0 in let f = c.args.exons.ready.few in omega arith
-
-pub bounds-exons-first-2 : goal.bounds-exons-first-2
-bounds-exons-first-2 c = let l = (held c.args.exons.intervals c.args.exons.strand c.args.coding c.args.first c.args.from c.requires.first_held (not-false c.args.coding (ap not c.if-not-coding.false))).0 in let e = c.args.exons.ready.even in omega arith
-
--- what `start_of` gives is the start of the exon
-starts : (c : After-start_of) → c.start_of.result ≡ (get_or (lent_exons c.args.exons.strand c.args.exons.intervals.starts.now c.args.exons.intervals.ends.now) c.args.first nowhere).start
-starts c =
-    c.start_of.ensures ∙ sym (start_at_lem c.args.exons.strand c.args.exons.intervals.starts.now c.args.exons.intervals.ends.now c.args.exons.ready c.args.first (held c.args.exons.intervals c.args.exons.strand c.args.coding c.args.first c.args.from c.requires.first_held (not-false c.args.coding (ap not c.if-not-coding.false))).0)
+pub start-requires : goal.start-requires
+start-requires c = (held c.args.exons.intervals c.args.exons.strand c.args.coding c.args.first c.args.from c.requires.first_held (not-false c.args.coding (ap not c.if-not-coding.false))).0
 
 pub offset_at-requires : goal.offset_at-requires
 offset_at-requires c =
     let h = held c.args.exons.intervals c.args.exons.strand c.args.coding c.args.first c.args.from c.requires.first_held (not-false c.args.coding (ap not c.if-not-coding.false)) in
     let f = c.requires.sums.reach in
     let l = h.0 in let s = h.1 in let t = h.2 in
-    let q = starts (goal.at.offset_at-requires c).After-start_of in
+    let q = c.start.ensures in
     let n = count c.args.exons.strand c.args.exons.intervals.starts.now c.args.exons.intervals.ends.now c.args.exons.ready in
     let e = end_at_lem c.args.exons.strand c.args.exons.intervals.starts.now c.args.exons.intervals.ends.now c.args.exons.ready c.args.first l in
     let u = end_top c.args.exons.strand c.args.exons.intervals.starts.now c.args.exons.intervals.ends.now c.args.exons.ready c.args.first l in (
@@ -66,5 +51,5 @@ returns c =
     let l = h.0 in
     let n = count c.args.exons.strand c.args.exons.intervals.starts.now c.args.exons.intervals.ends.now c.args.exons.ready in
     rw (not-false c.args.coding (ap not c.if-not-coding.false))
-    (c.offset_at.ensures ∙ rw (starts (goal.at.returns c).After-start_of)
+    (c.offset_at.ensures ∙ rw c.start.ensures
     (read_sum (lent_exons c.args.exons.strand c.args.exons.intervals.starts.now c.args.exons.intervals.ends.now) c.args.sums.now (ascends c.args.exons.strand c.args.exons.intervals.starts.now c.args.exons.intervals.ends.now c.args.exons.ready) c.requires.sums c.args.first c.args.from (omega arith) h.1 h.2))

@@ -8,16 +8,16 @@ use Rattle.transcript.proofs.coding.judge_cds.Goals as goal
 
 pub returns-then-not-holds_base : goal.returns-then-not-holds_base
 returns-then-not-holds_base c =
-    let x = c.args.exons in
-    let σ = c.args.strand in
+    let x = c.args.exons.intervals in
+    let σ = c.args.exons.strand in
     let cds = orient σ c.args.cds.cds_genomic_start c.args.cds.cds_genomic_end in
     let f = inside_at σ x c.first_base-first.result c.holds_base.result (sym c.holds_base.ensures) c.requires.cuttable.edges cds.start c.first_base-first.ensures in
     refused_by tt Refusal.FirstCodingBase _ (sym (lacks_first_lem _ cds (oriented_in σ x) (cuts_in σ c.args.segments) refl (f ∙ c.if-not-holds_base.true)))
 
 pub returns-then-not-holds_base-2 : goal.returns-then-not-holds_base-2
 returns-then-not-holds_base-2 c =
-    let x = c.args.exons in
-    let σ = c.args.strand in
+    let x = c.args.exons.intervals in
+    let σ = c.args.exons.strand in
     let cds = orient σ c.args.cds.cds_genomic_start c.args.cds.cds_genomic_end in
     let f = inside_at σ x c.first_base-first.result c.holds_base.result (sym c.holds_base.ensures) c.requires.cuttable.edges cds.start c.first_base-first.ensures in
     let l = inside_at σ x c.last_base-last.result c.holds_base-2.result (sym c.holds_base-2.ensures) c.requires.cuttable.edges (cds.end - 1) c.last_base-last.ensures in
@@ -25,8 +25,8 @@ returns-then-not-holds_base-2 c =
 
 pub returns-then-not-are_cuts : goal.returns-then-not-are_cuts
 returns-then-not-are_cuts c =
-    let x = c.args.exons in
-    let σ = c.args.strand in
+    let x = c.args.exons.intervals in
+    let σ = c.args.exons.strand in
     let cds = orient σ c.args.cds.cds_genomic_start c.args.cds.cds_genomic_end in
     let f = inside_at σ x c.first_base-first.result c.holds_base.result (sym c.holds_base.ensures) c.requires.cuttable.edges cds.start c.first_base-first.ensures in
     let l = inside_at σ x c.last_base-last.result c.holds_base-2.result (sym c.holds_base-2.ensures) c.requires.cuttable.edges (cds.end - 1) c.last_base-last.ensures in
@@ -34,8 +34,8 @@ returns-then-not-are_cuts c =
 
 pub returns : goal.returns
 returns c =
-    let x = c.args.exons in
-    let σ = c.args.strand in
+    let x = c.args.exons.intervals in
+    let σ = c.args.exons.strand in
     let cds = orient σ c.args.cds.cds_genomic_start c.args.cds.cds_genomic_end in
     let f = inside_at σ x c.first_base-first.result c.holds_base.result (sym c.holds_base.ensures) c.requires.cuttable.edges cds.start c.first_base-first.ensures in
     let l = inside_at σ x c.last_base-last.result c.holds_base-2.result (sym c.holds_base-2.ensures) c.requires.cuttable.edges (cds.end - 1) c.last_base-last.ensures in

@@ -7,5 +7,8 @@ pub returns-in_default : goal.returns-in_default
 returns-in_default c = answered tt _ (sym (none_segmented c.args.transcript.now c.requires.known.0 c.requires.framed c.in_default.is))
 
 pub returns-then-are_cuts : goal.returns-then-are_cuts
-returns-then-are_cuts c = answered tt _ (sym (some_segmented c.args.transcript.now c.requires.known.0 c.requires.framed c.requires.known.1 c.in-Some.cds c.in-Some.is
-    (sym c.bad_bounds.ensures ∙ c.if-not-bad_bounds.true) (sym c.are_cuts.ensures ∙ c.if-are_cuts.true)))
+returns-then-are_cuts c =
+    let x = c.exons-exons.ensures in
+    let b = c.segments-bases.ensures in
+    answered tt _ (sym (some_segmented c.args.transcript.now c.requires.known.0 c.requires.framed c.requires.known.1 c.in-Some.cds c.in-Some.is
+    (rw (b.0, b.1) at (sym c.bad_bounds.ensures ∙ c.if-not-bad_bounds.true)) (rw (x.0, x.1) at (sym c.are_cuts.ensures ∙ c.if-are_cuts.true))))

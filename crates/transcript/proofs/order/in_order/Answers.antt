@@ -8,32 +8,32 @@ use Rattle.transcript.proofs.order.in_order.Goals as goal
 
 pub start_within-requires : goal.start_within-requires
 start_within-requires c =
-    let x = c.args.exons in
+    let x = c.args.exons.intervals in
     let m = edges_at x.starts.now x.ends.now c.loop-i.i c.requires.good_edges c.requires.even (omega arith) in
     omega arith
 
 pub returns-then-start_within-edge : goal.returns-then-start_within-edge
 returns-then-start_within-edge c =
     let l = c.loop-i in
-    let x = c.args.exons in
-    let n = oriented_length c.args.strand x.starts.now x.ends.now c.requires.even in
-    let f = ap (λ (y : Interval). y.start) (oriented_at c.args.strand x.starts.now x.ends.now l.i c.requires.even (omega arith)) in
+    let x = c.args.exons.intervals in
+    let n = oriented_length c.args.exons.strand x.starts.now x.ends.now c.requires.even in
+    let f = ap (λ (y : Interval). y.start) (oriented_at c.args.exons.strand x.starts.now x.ends.now l.i c.requires.even (omega arith)) in
     let g = c.start_within.ensures in
-    sym (order_stop (oriented_in c.args.strand x) l.edge l.i (omega arith) (omega arith)) ∙ l.invariant
+    sym (order_stop (oriented_in c.args.exons.strand x) l.edge l.i (omega arith) (omega arith)) ∙ l.invariant
 
 pub end_within-edge-requires : goal.end_within-edge-requires
 end_within-edge-requires c =
-    let x = c.args.exons in
+    let x = c.args.exons.intervals in
     let m = edges_at x.starts.now x.ends.now c.loop-i.i c.requires.good_edges c.requires.even (omega arith) in
     omega arith
 
 pub loop-i-preserved : goal.loop-i-preserved
 loop-i-preserved c =
     let l = c.loop-i in
-    let x = c.args.exons in
-    let xs = oriented_in c.args.strand x in
-    let n = oriented_length c.args.strand x.starts.now x.ends.now c.requires.even in
-    let s = oriented_at c.args.strand x.starts.now x.ends.now l.i c.requires.even (omega arith) in
+    let x = c.args.exons.intervals in
+    let xs = oriented_in c.args.exons.strand x in
+    let n = oriented_length c.args.exons.strand x.starts.now x.ends.now c.requires.even in
+    let s = oriented_at c.args.exons.strand x.starts.now x.ends.now l.i c.requires.even (omega arith) in
     let f = ap (λ (y : Interval). y.start) s in
     let t = ap (λ (y : Interval). y.end) s in
     let g = c.start_within.ensures in
@@ -43,6 +43,6 @@ loop-i-preserved c =
 pub returns : goal.returns
 returns c =
     let l = c.loop-i in
-    let x = c.args.exons in
-    let n = oriented_length c.args.strand x.starts.now x.ends.now c.requires.even in
-    sym (order_end (oriented_in c.args.strand x) l.edge l.i (omega arith)) ∙ l.invariant
+    let x = c.args.exons.intervals in
+    let n = oriented_length c.args.exons.strand x.starts.now x.ends.now c.requires.even in
+    sym (order_end (oriented_in c.args.exons.strand x) l.edge l.i (omega arith)) ∙ l.invariant

@@ -1,7 +1,7 @@
 use Prim.Native.Nat.{◌+◌, ◌-◌, ◌≤◌}
-use mathlib.Core.Path.{◌≡◌, ◌∙◌, sym}
+use mathlib.Core.Path.{◌≡◌}
 use native.Mathlib.Omega.{arith}
-use Rattle.locate.proofs.Searching.{count, start_at_lem, found_some}
+use Rattle.locate.proofs.Searching.{count, found_some}
 use Rattle.locate.proofs.search.Ordered.last_started.Goals as goal
 use Rattle.locate.proofs.search.Ordered.last_started.Goals.{After-started-index}
 
@@ -23,5 +23,5 @@ returns g c =
     record {
       index = omega arith;
       started = rw e s.ensures.1;
-      start_is = c.start_of-start.ensures ∙ sym (start_at_lem c.args.self.strand c.args.self.intervals.starts.now c.args.self.intervals.ends.now c.args.self.ready (s.result - 1) (omega arith));
+      start_is = c.start-start.ensures;
     }

@@ -1,18 +1,12 @@
 -- what is left.
-use Prim.Native.Nat.{◌+◌, ◌/◌}
-use mathlib.Core.Path.{◌≡◌, sym, ◌∙◌}
+use mathlib.Core.Path.{◌≡◌}
 use native.Mathlib.Omega.{arith}
 use Rattle.transcript.specs.code.Lent.{lent_exons}
 use Rattle.transcript.proofs.Listed.{first_at}
-use Rattle.locate.proofs.Searching.{later_half, earlier_half, ascends, count, start_at_lem}
+use Rattle.locate.proofs.Halving.{later_half, earlier_half}
+use Rattle.locate.proofs.Searching.{ascends, count}
 use Rattle.locate.proofs.search.Ordered.last_unordered.Goals as goal
 use Rattle.locate.proofs.search.Ordered.last_unordered.Goals.{then-at-p, else-at-p}
-
-pub bounds-self-index : goal.bounds-self-index
-bounds-self-index c = c.requires.some
-
-pub bounds-self-index-2 : goal.bounds-self-index-2
-bounds-self-index-2 c = let s = c.requires.some in let e = c.args.self.ready.even in omega arith
 
 pub loop-left-init : goal.loop-left-init
 loop-left-init c =
@@ -21,20 +15,16 @@ loop-left-init c =
     let r = c.requires.some in
     let f = first_at xs (omega arith) in
     let g = c.requires.ends_bound in
-    (r, omega arith, record { lo_le = omega arith; hi_le = omega arith; before = λ k q. (let z : k ≡ 0 = omega arith in rw z (omega arith)); after = λ k q t. absurd (omega arith) }, c.start_of-start.ensures ∙ sym (start_at_lem c.args.self.strand c.args.self.intervals.starts.now c.args.self.intervals.ends.now c.args.self.ready 0 r))
-
-pub bounds-self-mid-in-loop-left : goal.bounds-self-mid-in-loop-left
-bounds-self-mid-in-loop-left c = let e = c.args.self.ready.even in omega arith
+    (r, omega arith, record { lo_le = omega arith; hi_le = omega arith; before = λ k q. (let z : k ≡ 0 = omega arith in rw z (omega arith)); after = λ k q t. absurd (omega arith) }, c.start-start.ensures)
 
 pub loop-left-preserved : goal.loop-left-preserved
 loop-left-preserved c =
     let l = c.loop-left in
     let xs = lent_exons c.args.self.strand c.args.self.intervals.starts.now c.args.self.intervals.ends.now in
     let o = ascends c.args.self.strand c.args.self.intervals.starts.now c.args.self.intervals.ends.now c.args.self.ready in
-    let e = start_at_lem c.args.self.strand c.args.self.intervals.starts.now c.args.self.intervals.ends.now c.args.self.ready (l.index + l.left / 2) (omega arith) in
-    let f = c.start_of-at.ensures in
+    let f = c.start-at.ensures in
     elim c.if-at-p.branch [
-      | then-at-p w ↦ rw (w.index-is, w.start-is) (omega arith, omega arith, later_half xs c.args.p l.index l.left o l.invariant.2 (omega arith) (let t = w.if-at-p.true in omega arith), f ∙ sym e)
+      | then-at-p w ↦ rw (w.index-is, w.start-is) (omega arith, omega arith, later_half xs c.args.p l.index l.left o l.invariant.2 (omega arith) (let t = w.if-at-p.true in omega arith), f)
       | else-at-p w ↦ rw (w.index-is, w.start-is) (omega arith, omega arith, earlier_half xs c.args.p l.index l.left o l.invariant.2 (omega arith) (let t = w.if-at-p.false in omega arith), l.invariant.3)
     ]
 

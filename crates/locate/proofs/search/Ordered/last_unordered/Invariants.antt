@@ -3,7 +3,7 @@ use mathlib.Core.Path.{◌≡◌}
 use lib.ListN.{length, get_or}
 use Rattle.transcript.specs.code.Lent.{lent_exons}
 use Rattle.transcript.proofs.Listed.{nowhere}
-use Rattle.locate.proofs.Searching.{Bracket}
+use Rattle.locate.proofs.Halving.{Bracket}
 use Rattle.locate.proofs.search.Ordered.last_unordered.Given as goal
 
 abbrev pub invariant-loop-left : goal.invariant-loop-left

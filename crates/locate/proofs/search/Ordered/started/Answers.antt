@@ -1,9 +1,10 @@
 use Prim.Native.Nat.{◌+◌, ◌-◌, ◌/◌}
 use native.Mathlib.Omega.{arith}
 use Rattle.transcript.specs.code.Lent.{lent_exons}
-use Rattle.locate.proofs.Searching.{second_half, first_half, ascends, count, start_at_lem}
+use Rattle.locate.proofs.Halving.{second_half, first_half}
+use Rattle.locate.proofs.Searching.{ascends, count}
 use Rattle.locate.proofs.search.Ordered.started.Goals as goal
-use Rattle.locate.proofs.search.Ordered.started.Goals.{then-start_of-p, else-start_of-p}
+use Rattle.locate.proofs.search.Ordered.started.Goals.{then-start-p, else-start-p}
 
 pub loop-left-init : goal.loop-left-init
 loop-left-init c =
@@ -17,11 +18,10 @@ loop-left-preserved c =
     let xs = lent_exons c.args.self.strand c.args.self.intervals.starts.now c.args.self.intervals.ends.now in
     let mid = l.lo + (l.left - l.left / 2) - 1 in
     let o = ascends c.args.self.strand c.args.self.intervals.starts.now c.args.self.intervals.ends.now c.args.self.ready in
-    let e = start_at_lem c.args.self.strand c.args.self.intervals.starts.now c.args.self.intervals.ends.now c.args.self.ready mid (omega arith) in
-    let f = c.start_of.ensures in
-    elim c.if-start_of-p.branch [
-      | then-start_of-p w ↦ rw w.lo-is (omega arith, second_half xs c.args.p l.lo l.left o l.invariant.1 (omega arith) (let t = w.if-start_of-p.true in omega arith))
-      | else-start_of-p w ↦ rw w.lo-is (omega arith, first_half xs c.args.p l.lo l.left o l.invariant.1 (omega arith) (let t = w.if-start_of-p.false in omega arith))
+    let f = c.start.ensures in
+    elim c.if-start-p.branch [
+      | then-start-p w ↦ rw w.lo-is (omega arith, second_half xs c.args.p l.lo l.left o l.invariant.1 (omega arith) (let t = w.if-start-p.true in omega arith))
+      | else-start-p w ↦ rw w.lo-is (omega arith, first_half xs c.args.p l.lo l.left o l.invariant.1 (omega arith) (let t = w.if-start-p.false in omega arith))
     ]
 
 pub returns : goal.returns

@@ -1,7 +1,7 @@
 use Prim.Native.Nat.{◌+◌, ◌≤◌}
 use lib.ListN.{length}
 use Rattle.transcript.specs.code.Lent.{lent_exons}
-use Rattle.locate.proofs.Searching.{Bracket}
+use Rattle.locate.proofs.Halving.{Bracket}
 use Rattle.locate.proofs.search.Ordered.started.Given as goal
 
 abbrev pub invariant-loop-left : goal.invariant-loop-left
