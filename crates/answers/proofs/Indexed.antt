@@ -17,26 +17,26 @@ use Rattle.consequence.proofs.OnPrepared.{on_prepared}
 use Rattle.answers.specs.declared.lent.Indexed.{Indexed}
 
 module _ (x : Indexed) where
-  pub exons_indexed : (x.index.now.scalars ≡ index_scalars (oriented (transcript_of x.transcript.now))) × ExonSums (oriented (transcript_of x.transcript.now)) x.index.now.cumulative_exons
+  pub exons_indexed : (x.index.now.scalars ≡ index_scalars (oriented (transcript_of x.admitted.transcript.now))) × ExonSums (oriented (transcript_of x.admitted.transcript.now)) x.index.now.cumulative_exons
   exons_indexed =
-      let i = x.ready.indexed in
-      (ap (λ (y : LocateIndex). y.scalars) i, rw (ap (λ (y : LocateIndex). y.cumulative_exons) i) (index_exons (oriented (transcript_of x.transcript.now))))
+      let i = x.indexed in
+      (ap (λ (y : LocateIndex). y.scalars) i, rw (ap (λ (y : LocateIndex). y.cumulative_exons) i) (index_exons (oriented (transcript_of x.admitted.transcript.now))))
 
-  pub prepared : Prepared (transcript_of x.transcript.now) x.index.now.scalars x.index.now.cumulative_exons x.index.now.cumulative_cds x.index.now.selenocysteine_codons
+  pub prepared : Prepared (transcript_of x.admitted.transcript.now) x.index.now.scalars x.index.now.cumulative_exons x.index.now.cumulative_cds x.index.now.selenocysteine_codons
   prepared =
-      let t = x.transcript.now in
-      let pad = pad_2 t.model t.exons.starts.now t.exons.ends.now t.segments.phases.now t.segments.exon_indexes.now t.segments.bases.starts.now t.segments.bases.ends.now t.selenocysteine.now x.ready.admitted in
+      let t = x.admitted.transcript.now in
+      let pad = pad_2 t.model t.exons.starts.now t.exons.ends.now t.segments.phases.now t.segments.exon_indexes.now t.segments.bases.starts.now t.segments.bases.ends.now t.selenocysteine.now x.admitted.admitted in
       record {
-        admitted = x.ready.admitted;
+        admitted = x.admitted.admitted;
         scalars_are = exons_indexed.0;
         exons_are = exons_indexed.1;
-        segments_are = rw (ap (λ (y : LocateIndex). y.cumulative_cds) x.ready.indexed) (index_cds (oriented (transcript_of t)) pad);
-        codons_are = ap (λ (y : LocateIndex). y.selenocysteine_codons) x.ready.indexed;
+        segments_are = rw (ap (λ (y : LocateIndex). y.cumulative_cds) x.indexed) (index_cds (oriented (transcript_of t)) pad);
+        codons_are = ap (λ (y : LocateIndex). y.selenocysteine_codons) x.indexed;
       }
 
 -- a law about a prepared transcript's parts, at those of the transcript and its index
 abbrev pub on_indexed : (x : Indexed)
     → {P : (m : TranscriptModel) (ss es ps is gs ge bs : List ℕ) (x : IndexScalars) (xs ys cs : List ℕ) → Prepared (lent m ss es ps is gs ge bs) x xs ys cs → Type 0}
     → ((m : TranscriptModel) (ss es ps is gs ge bs : List ℕ) (x : IndexScalars) (xs ys cs : List ℕ) (h : Prepared (lent m ss es ps is gs ge bs) x xs ys cs) → P m ss es ps is gs ge bs x xs ys cs h)
-    → P x.transcript.now.model x.transcript.now.exons.starts.now x.transcript.now.exons.ends.now x.transcript.now.segments.phases.now x.transcript.now.segments.exon_indexes.now x.transcript.now.segments.bases.starts.now x.transcript.now.segments.bases.ends.now x.transcript.now.selenocysteine.now x.index.now.scalars x.index.now.cumulative_exons x.index.now.cumulative_cds x.index.now.selenocysteine_codons (prepared x)
-on_indexed x f = on_prepared x.transcript.now x.index.now.scalars x.index.now.cumulative_exons x.index.now.cumulative_cds x.index.now.selenocysteine_codons (prepared x) f
+    → P x.admitted.transcript.now.model x.admitted.transcript.now.exons.starts.now x.admitted.transcript.now.exons.ends.now x.admitted.transcript.now.segments.phases.now x.admitted.transcript.now.segments.exon_indexes.now x.admitted.transcript.now.segments.bases.starts.now x.admitted.transcript.now.segments.bases.ends.now x.admitted.transcript.now.selenocysteine.now x.index.now.scalars x.index.now.cumulative_exons x.index.now.cumulative_cds x.index.now.selenocysteine_codons (prepared x)
+on_indexed x f = on_prepared x.admitted.transcript.now x.index.now.scalars x.index.now.cumulative_exons x.index.now.cumulative_cds x.index.now.selenocysteine_codons (prepared x) f

@@ -3,4 +3,3 @@ pub mod Lists
 pub mod Calls
 pub mod Interval
 pub mod Lines
-pub mod code

@@ -9,7 +9,6 @@ use crate::lent::Indexed;
 use footprint::Ranges;
 use locate::VariantLocation;
 use locate::place::place_of_base;
-use transcript::admission::Admitted;
 
 // Whether no position is below the one before it. No answer rests on it, only how fast it comes.
 pub(crate) fn ascends(positions: &[u64]) -> bool {
@@ -24,14 +23,12 @@ pub(crate) fn place_by_order(
     p: u64,
 ) -> VariantLocation
     requires { p ≤ top }
-    ensures { result ≡ locate ranges (oriented (transcript_of indexed.entry.transcript.now)) p }
+    ensures { result ≡ locate ranges (oriented (transcript_of indexed.entry.admitted.transcript.now)) p }
 {
     if ascending {
         place_of_base::<true>(
             ranges,
-            Admitted {
-                transcript: indexed.transcript,
-            },
+            indexed.admitted,
             indexed.index.scalars,
             &indexed.index.cumulative_exons,
             p,
@@ -39,9 +36,7 @@ pub(crate) fn place_by_order(
     } else {
         place_of_base::<false>(
             ranges,
-            Admitted {
-                transcript: indexed.transcript,
-            },
+            indexed.admitted,
             indexed.index.scalars,
             &indexed.index.cumulative_exons,
             p,

@@ -13,11 +13,11 @@ use transcript::Transcript;
 use transcript::admission::Admitted;
 use words::{PLACE_WORDS, put_located};
 
-// The places of the positions, one behind the other.
+// The places of the positions, one behind the other. By index, as put_calls.
 fn put_places(ranges: Ranges, chromosome: u16, positions: &[u64], indexed: Indexed, out: &mut [i64])
     requires near { ranges.flank < 2 ^ 32 }
     requires fits { length out.old ≡ 8 * length positions.now }
-    ensures { out.new ≡ places_words ranges (transcript_of indexed.entry.transcript.now) chromosome positions.now }
+    ensures { out.new ≡ places_words ranges (transcript_of indexed.entry.admitted.transcript.now) chromosome positions.now }
 {
     for i in 0..positions.len() {
         let located = locate_position(ranges, chromosome, positions[i], indexed);
@@ -46,7 +46,7 @@ pub fn answer_places(
         chromosome,
         positions,
         Indexed {
-            transcript,
+            admitted,
             index: &index,
         },
         out,

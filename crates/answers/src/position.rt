@@ -8,7 +8,6 @@ use common::refusal::Refusal;
 use footprint::Ranges;
 use locate::VariantLocation;
 use locate::place::place_of_base;
-use transcript::admission::Admitted;
 use transcript::question::{QUERY_LIMIT, base_of};
 
 // The place of [p, p + 1).
@@ -18,20 +17,18 @@ pub(crate) fn locate_position(
     p: u64,
     indexed: Indexed,
 ) -> Result<VariantLocation, Refusal>
-    ensures { result ≡ locate_position ranges (transcript_of indexed.entry.transcript.now) chromosome p }
+    ensures { result ≡ locate_position ranges (transcript_of indexed.entry.admitted.transcript.now) chromosome p }
 {
     if QUERY_LIMIT <= p {
         return Err(Refusal::Interval);
     }
-    if chromosome != indexed.transcript.model.chromosome {
+    if chromosome != indexed.admitted.transcript.model.chromosome {
         return Err(Refusal::Chromosome);
     }
-    let q = base_of(indexed.transcript.model.strand, p);
+    let q = base_of(indexed.admitted.transcript.model.strand, p);
     Ok(place_of_base::<true>(
         ranges,
-        Admitted {
-            transcript: indexed.transcript,
-        },
+        indexed.admitted,
         indexed.index.scalars,
         &indexed.index.cumulative_exons,
         q,

@@ -20,7 +20,7 @@ use Rattle.footprint.proofs.GapList.{gaps_length, gaps_at}
 use Rattle.footprint.proofs.BaseSpills.{donor_only, acceptor_only}
 use Rattle.locate.specs.code.Search.{Started}
 use Rattle.locate.proofs.Sums.{starts_from}
-use Rattle.locate.proofs.Searching.{some_at}
+use Rattle.locate.proofs.Walking.{some_at}
 
 -- an interval ends at or before the start of the next
 ends_before : (xs : List Interval) (e k : ℕ) → Ascends e xs → suc k < length xs → (get_or xs k nowhere).end ≤ (get_or xs (suc k) nowhere).start

@@ -36,7 +36,7 @@ in_region t p place Region.Distal c terms = refl
 in_region t p place (Region.Flank x) c terms = refl
 in_region t p place (Region.Intron i x m) c terms = refl
 in_region t p place (Region.Exon i x m) c terms = refl
-in_region t p place (Region.Coding i o n k m) c terms = refl
+in_region t p place (Region.Coding b) c terms = refl
 
 pub located : (code : List ℕ) (t : Oriented) (p alt : ℕ) (codon : ℕ → Option Codon) (place : VariantLocation) → (place_result code t p alt codon place).location ≡ place
 unfolding place_result

@@ -11,10 +11,8 @@ use lib.Dec.{ltb}
 use borrow.Author.Tests.{lt-ltb, le-ltb, ltb-true, ltb-false}
 use Rattle.common.proofs.TestParts.{on_test}
 use Rattle.transcript.specs.declared.Strand.{Strand}
-use Rattle.transcript.specs.declared.Strand.TheVariants.{Minus}
-use Rattle.transcript.specs.Limits.{coordinate_limit}
 use Rattle.transcript.specs.Transcript.{exons_of}
-use Rattle.transcript.specs.Orient.{Interval, orient, orient_base}
+use Rattle.transcript.specs.Orient.{Interval}
 use Rattle.transcript.specs.Bases.{size}
 use Rattle.transcript.proofs.Listed.{nowhere, edges_at}
 use Rattle.locate.specs.Index.{cumulative}
@@ -23,13 +21,9 @@ use Rattle.locate.specs.code.Search.{Ready}
 use Rattle.locate.specs.code.Sums.{first_sum, Sums}
 use Rattle.locate.proofs.PrefixSums.{cumulative_first, cumulative_next, sizes_at}
 use Rattle.locate.proofs.LentIndex.{sizes_turned}
-use Rattle.locate.proofs.Searching.{count, start_at_lem}
+use Rattle.locate.proofs.Searching.{count}
 use Rattle.locate.specs.Place.{coding_position}
 use Rattle.consequence.specs.code.Segments.{Segments, Rising, Held}
-
--- base d of [s, e) on the minus strand
-pub nth_minus : (s e d : ℕ) → d < e - s → e ≤ coordinate_limit → orient_base Minus ((orient Minus s e).start + d) ≡ e - 1 - d
-nth_minus s e d h l = omega arith
 
 cumulative_from : (first : ℕ) (ns : List ℕ) (k : ℕ) → k ≤ length ns → first ≤ get_or (cumulative first ns) k 0
 unfolding cumulative
@@ -86,26 +80,15 @@ module _ (σ : Strand) (gs ge sums : List ℕ) (pad : ℕ) (r : Ready σ gs ge) 
 
   -- a padded offset k that segment i holds
   module _ (k i : ℕ) (h : Held sums (length gs) k i) where
-    edges : (get_or gs i 0 < get_or ge i 0) × (get_or ge i 0 ≤ coordinate_limit)
-    edges = edges_at gs ge i r.edges r.even h.index
-
     pub sum_le : pad ≤ k → get_or sums i 0 ≤ k
     sum_le l = let f = h.from in let q = s.pad_is in omega arith
 
-    pub in_segment : pad ≤ k → (k - get_or sums i 0 < get_or ge i 0 - get_or gs i 0) × (get_or ge i 0 ≤ coordinate_limit)
-    in_segment l =
-        let n = next_sum i h.index in
-        let a = sum_le l in
-        let b = h.to in
-        (omega arith, edges.1)
-
-    pub base_is : pad ≤ k → coding_position (lent_exons σ gs ge) (k - pad) ≡ (orient σ (get_or gs i 0) (get_or ge i 0)).start + (k - get_or sums i 0)
+    pub base_is : pad ≤ k → coding_position (lent_exons σ gs ge) (k - pad) ≡ (get_or (lent_exons σ gs ge) i nowhere).start + (k - get_or sums i 0)
     base_is l =
         let n = count σ gs ge r in
         let x = h.index in
         ap (λ (f : ℕ). coding_position (lent_exons σ gs ge) (k - f)) s.pad_is
         ∙ coding_at (lent_exons σ gs ge) sums s.summed i k (omega arith) (sum_le l) h.to
-        ∙ ap (λ (f : ℕ). f + (k - get_or sums i 0)) (start_at_lem σ gs ge r i x)
 
     -- the next offset lies in the same segment or in the next
     pub held_next : (m j : ℕ) → m ≡ k + 1 → m < get_or sums (length gs) 0 → j ≡ cond (ltb m (get_or sums (i + 1) 0)) i (i + 1) → Held sums (length gs) m j

@@ -19,7 +19,6 @@ use Rattle.transcript.proofs.Listed.{nowhere}
 use Rattle.transcript.proofs.Orient.{inside_start, inside_end}
 use Rattle.footprint.specs.declared.Ranges.{Ranges}
 use Rattle.locate.specs.declared.VariantLocation.{VariantLocation}
-use Rattle.locate.specs.declared.CdsOffset.{CdsOffset}
 use Rattle.locate.specs.declared.IndexScalars.{IndexScalars}
 use Rattle.locate.specs.Index.{selenocysteine_codons}
 use Rattle.locate.specs.Place.{cds_offset, cdna_position, locate}
@@ -31,6 +30,7 @@ use Rattle.locate.proofs.Offset.{CdnaOf, index_cdna}
 use Rattle.locate.proofs.CodedBases.{some_interval}
 use Rattle.locate.proofs.LentTranscript.{known, ad, exons_are, segments_are, bases_are, count, segment_count, coding_is, pad_2}
 use Rattle.locate.proofs.LentIndex.{exonic, coding, total}
+use Rattle.consequence.specs.declared.CodingPlace.{CodingPlace}
 use Rattle.consequence.specs.declared.region.Region.{Region}
 use Rattle.consequence.specs.Region.{region_of}
 use Rattle.consequence.specs.code.AtPlace.{region_called, place_called}
@@ -113,20 +113,20 @@ module _ (m : TranscriptModel) (ss es ps is gs ge bs : List ℕ) (x : IndexScala
     called code alt codon = ap (region_called code o p alt codon place) coding_same ∙ by_region code o p alt codon place
 
   -- a coding base
-  module _ (r : Ranges) (p : ℕ) (place : VariantLocation) (q : place ≡ locate r o p) (i : ℕ) (f : CdsOffset) (n k : ℕ) (mark : Bool) (e : Region.Coding i f n k mark ≡ region_of (ltb 0 (length gs)) place) where
-    is_coding_lem : (is_cds_exon place ≡ true) × (place_offset place ≡ f.0)
-    is_coding_lem = coding_region (ltb 0 (length gs)) place i f n k mark (sym e)
+  module _ (r : Ranges) (p : ℕ) (place : VariantLocation) (q : place ≡ locate r o p) (b : CodingPlace) (e : Region.Coding b ≡ region_of (ltb 0 (length gs)) place) where
+    is_coding_lem : (is_cds_exon place ≡ true) × (place_offset place ≡ b.base.offset.0)
+    is_coding_lem = coding_region (ltb 0 (length gs)) place b (sym e)
 
     in_segment : inside_any p o.segments ≡ true
     in_segment = sym (coding_place t (on known) r p) ∙ ap is_cds_exon (sym q) ∙ is_coding_lem.0
 
-    offset_is : f.0 ≡ cds_offset o p
+    offset_is : b.base.offset.0 ≡ cds_offset o p
     offset_is = sym is_coding_lem.1 ∙ ap place_offset q ∙ coding_offset r o p (ap is_cds_exon (sym q) ∙ is_coding_lem.0)
 
     position : CdnaOf o p
     position = index_cdna t (on known) p in_segment
 
-    pub coding_cdna : cdna_position o p ≡ x.utr5_exonic_len + (f.0 - x.cds_start_pad) + 1
+    pub coding_cdna : cdna_position o p ≡ x.utr5_exonic_len + (b.base.offset.0 - x.cds_start_pad) + 1
     coding_cdna = sym (rw (h.scalars_are, offset_is) position.is)
 
     segments_summed : Segments (lent_exons m.strand gs ge) ys x.cds_start_pad
@@ -136,23 +136,23 @@ module _ (m : TranscriptModel) (ss es ps is gs ge bs : List ℕ) (x : IndexScala
       pad_is = ap (λ (y : IndexScalars). y.cds_start_pad) h.scalars_are ∙ sym h.segments_are.1;
     }
 
-    offset_low : f.0 < x.total_cds_length
-    offset_low = let b = before_lt o.segments p in_segment in let q = offset_is in rw h.scalars_are (omega arith)
+    offset_low : b.base.offset.0 < x.total_cds_length
+    offset_low = let a = before_lt o.segments p in_segment in let q = offset_is in rw h.scalars_are (omega arith)
 
     pub coding_requires : Segments (lent_exons m.strand gs ge) ys x.cds_start_pad
-        × (((x.segment_count ≡ length gs) × (x.total_cds_length ≡ get_or ys (length gs) 0) × (f.0 < x.total_cds_length))
+        × (((x.segment_count ≡ length gs) × (x.total_cds_length ≡ get_or ys (length gs) 0) × (b.base.offset.0 < x.total_cds_length))
         × (((x.selenocysteine_count ≤ 64) × (x.selenocysteine_count ≤ length cs))
-        × ((i < 65535) × (f.0 ≤ 2 + top) × (x.cds_start_pad ≤ f.0) × (x.utr5_exonic_len + (f.0 - x.cds_start_pad) ≤ top))))
+        × ((b.exon < 65535) × (b.base.offset.0 ≤ 2 + top) × (x.cds_start_pad ≤ b.base.offset.0) × (x.utr5_exonic_len + (b.base.offset.0 - x.cds_start_pad) ≤ top))))
     coding_requires =
         let s = h.scalars_are in
         let c : x.selenocysteine_count ≡ length o.selenocysteine = ap (λ (y : IndexScalars). y.selenocysteine_count) s in
-        let b = ap length (on bases_are) ∙ length-map bs (orient_base m.strand) in
+        let d = ap length (on bases_are) ∙ length-map bs (orient_base m.strand) in
         let l = length-map o.selenocysteine (λ b. cds_offset o b / 3 + 1) in
         let a = ap length h.codons_are ∙ length-append (selenocysteine_codons o) (replicate (64 - length (selenocysteine_codons o)) 0) in
         let w = (on ad).few_bases in
-        let u = (index_fits i (at_region r p place q (Region.Coding i f n k mark) e)).0 in
+        let u = (index_fits b.exon (at_region r p place q (Region.Coding b) e)).0 in
         let z : CdnaOf o p = position in
-        let v : (x.cds_start_pad ≤ f.0) × (x.utr5_exonic_len + (f.0 - x.cds_start_pad) ≤ top) = rw (s, offset_is) (z.padded, z.fits) in
+        let v : (x.cds_start_pad ≤ b.base.offset.0) × (x.utr5_exonic_len + (b.base.offset.0 - x.cds_start_pad) ≤ top) = rw (s, offset_is) (z.padded, z.fits) in
         let y : x.cds_start_pad ≤ 2 = rw s (on pad_2) in (
           segments_summed,
           (

@@ -16,7 +16,7 @@ use Rattle.transcript.proofs.Listed.{nowhere}
 use Rattle.footprint.specs.declared.Ranges.{Ranges}
 use Rattle.footprint.specs.Ranges.{splice_canonical_max, frameshift_intron_max_gap}
 use Rattle.locate.specs.declared.VariantLocation.{VariantLocation}
-use Rattle.locate.specs.declared.CdsOffset.{CdsOffset}
+use Rattle.consequence.specs.declared.CodingPlace.{CodingPlace}
 use Rattle.locate.specs.declared.VariantLocation.TheVariants.{Upstream, Downstream, Distal, FivePrimeUtr, CdsExon, ThreePrimeUtr, SpliceDonor, SpliceAcceptor, SpliceRegion, Intron, FrameshiftIntron, NonCodingExon, NonCodingIntron}
 use Rattle.locate.specs.Find.{Found, in_exon, in_intron, outside, find_after, find_exon_or_intron}
 use Rattle.locate.specs.Intronic.{signed_distance, deep_intron, classify_distances}
@@ -26,17 +26,17 @@ use Rattle.common.specs.Refusal.{outcome}
 use Rattle.consequence.specs.declared.region.Region.{Region}
 use Rattle.consequence.specs.Answer.{codon_columns, codon_result, place_result}
 use Rattle.consequence.specs.Call.{is_outside, closing_refusal}
-use Rattle.consequence.specs.Region.{region_of}
+use Rattle.consequence.specs.Region.{coding_place, region_of}
 use Rattle.consequence.specs.code.AtPlace.{coding_called, region_called, place_called}
 use Rattle.codon.specs.declared.Codon.{Codon}
 
 -- the answer from the region is the answer at the place
 module _ (code : List ℕ) (t : Oriented) (p alt : ℕ) (codon : ℕ → Option Codon) where
-  coded : (place : VariantLocation) (i : ℕ) (o : CdsOffset) (n k : ℕ) (m : Bool) (c : Option Codon)
-      → coding_called code t p alt place i o n k m c
-      ≡ outcome (closing_refusal false (is_outside c)) (codon_result t p place (Region.Coding i o n k m) (codon_columns code t o.0 n k alt c))
-  coded place i o n k m (Some c) = refl
-  coded place i o n k m None = refl
+  coded : (place : VariantLocation) (b : CodingPlace) (c : Option Codon)
+      → coding_called code t p alt place b c
+      ≡ outcome (closing_refusal false (is_outside c)) (codon_result t p place (Region.Coding b) (codon_columns code t b.base.offset.0 b.base.number b.base.position alt c))
+  coded place b (Some c) = refl
+  coded place b None = refl
 
   pub by_region : (place : VariantLocation) → region_called code t p alt codon place (region_of t.coding place) ≡ place_called code t p alt codon place
   unfolding place_called place_result
@@ -44,7 +44,7 @@ module _ (code : List ℕ) (t : Oriented) (p alt : ℕ) (codon : ℕ → Option 
   by_region (Downstream d) = refl
   by_region Distal = refl
   by_region (FivePrimeUtr i d m) = refl
-  by_region (CdsExon i g o n k m) = coded (CdsExon i g o n k m) i o n k m (codon o.0)
+  by_region (CdsExon i g o n k m) = coded (CdsExon i g o n k m) (coding_place i g o n k m) (codon o.0)
   by_region (ThreePrimeUtr i d m) = refl
   by_region (SpliceDonor i d) = refl
   by_region (SpliceAcceptor i d) = refl
@@ -108,7 +108,7 @@ AtRegion xs p Region.Distal = Unit {0}
 AtRegion xs p (Region.Flank c) = Unit {0}
 AtRegion xs p (Region.Intron i c m) = i < length xs
 AtRegion xs p (Region.Exon i c m) = Here xs p i
-AtRegion xs p (Region.Coding i o n k m) = i < length xs
+AtRegion xs p (Region.Coding b) = b.exon < length xs
 
 module _ (xs : List Interval) (p : ℕ) (coding : Bool) where
   abbrev At : VariantLocation → Type 0
@@ -160,14 +160,14 @@ is_coding Region.Distal = false
 is_coding (Region.Flank c) = false
 is_coding (Region.Intron i c m) = false
 is_coding (Region.Exon i c m) = false
-is_coding (Region.Coding i o n k m) = true
+is_coding (Region.Coding b) = true
 
 abbrev offset_of : Region → ℕ
 offset_of Region.Distal = 0
 offset_of (Region.Flank c) = 0
 offset_of (Region.Intron i c m) = 0
 offset_of (Region.Exon i c m) = 0
-offset_of (Region.Coding i o n k m) = o.0
+offset_of (Region.Coding b) = b.base.offset.0
 
 coding_parts : (coding : Bool) (place : VariantLocation) → (is_coding (region_of coding place) ≡ is_cds_exon place) × (offset_of (region_of coding place) ≡ place_offset place)
 coding_parts coding (Upstream d) = (refl, refl)
@@ -184,5 +184,5 @@ coding_parts coding (FrameshiftIntron i d) = (refl, refl)
 coding_parts coding (NonCodingExon i m) = (refl, refl)
 coding_parts coding (NonCodingIntron i d) = (refl, refl)
 
-pub coding_region : (coding : Bool) (place : VariantLocation) (i : ℕ) (o : CdsOffset) (n k : ℕ) (m : Bool) → region_of coding place ≡ Region.Coding i o n k m → (is_cds_exon place ≡ true) × (place_offset place ≡ o.0)
-coding_region coding place i o n k m e = let c = coding_parts coding place in (sym c.0 ∙ ap is_coding e, sym c.1 ∙ ap offset_of e)
+pub coding_region : (coding : Bool) (place : VariantLocation) (b : CodingPlace) → region_of coding place ≡ Region.Coding b → (is_cds_exon place ≡ true) × (place_offset place ≡ b.base.offset.0)
+coding_region coding place b e = let c = coding_parts coding place in (sym c.0 ∙ ap is_coding e, sym c.1 ∙ ap offset_of e)

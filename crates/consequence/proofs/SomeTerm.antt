@@ -45,7 +45,7 @@ Named Region.Distal terms = ⊥
 Named (Region.Flank c) terms = Unit {0}
 Named (Region.Intron i c m) terms = Unit {0}
 Named (Region.Exon i c m) terms = Unit {0}
-Named (Region.Coding i o n k m) terms = HoldsSome terms
+Named (Region.Coding b) terms = HoldsSome terms
 
 region_some : (t : Oriented) (p : ℕ) (place : VariantLocation) (g : Region) (c : Columns) → Named g c.terms
     → HoldsSome (codon_result t p place g c).consequences.0
@@ -53,7 +53,7 @@ region_some t p place Region.Distal c h = absurd h
 region_some t p place (Region.Flank x) c h = some_only x
 region_some t p place (Region.Intron i x m) c h = some_with_if m (only x) SpliceRegionVariant (some_only x)
 region_some t p place (Region.Exon i x m) c h = some_with_if m (only x) SpliceRegionVariant (some_only x)
-region_some t p place (Region.Coding i o n k m) c h = some_with_if m c.terms SpliceRegionVariant h
+region_some t p place (Region.Coding b) c h = some_with_if b.mark c.terms SpliceRegionVariant h
 
 module _ (code : List ℕ) (t : Oriented) (alt : ℕ) where
   codon_some : (offset number k : ℕ) (f : Option Codon) → refuse (is_outside f) 21 0 ≡ 0

@@ -107,7 +107,8 @@ region_columns code t alt codon Region.Distal = no_codon
 region_columns code t alt codon (Region.Flank c) = no_codon
 region_columns code t alt codon (Region.Intron i c m) = no_codon
 region_columns code t alt codon (Region.Exon i c m) = no_codon
-region_columns code t alt codon (Region.Coding i o n k m) = codon_columns code t o.0 n k alt (codon o.0)
+region_columns code t alt codon (Region.Coding b) =
+    codon_columns code t b.base.offset.0 b.base.number b.base.position alt (codon b.base.offset.0)
 
 -- the answer in a region with these columns and terms. Distal is refused before (19)
 abbrev pub region_result : Oriented → ℕ → VariantLocation → Region → Columns → ℕ → ConsequenceResult
@@ -115,7 +116,7 @@ region_result t p place Region.Distal c terms = flank_result place terms
 region_result t p place (Region.Flank term) c terms = flank_result place terms
 region_result t p place (Region.Intron i term m) c terms = intron_result t place i terms
 region_result t p place (Region.Exon i term m) c terms = exon_result t p place i c terms
-region_result t p place (Region.Coding i o n k m) c terms = exon_result t p place i c terms
+region_result t p place (Region.Coding b) c terms = exon_result t p place b.exon c terms
 
 -- the answer in a region, from its codon
 abbrev pub codon_result : Oriented → ℕ → VariantLocation → Region → Columns → ConsequenceResult

@@ -5,12 +5,21 @@ use Rattle.locate.specs.declared.VariantLocation.TheVariants.{Upstream, Downstre
 use Rattle.terms.specs.declared.Consequence.{Consequence}
 use Rattle.terms.specs.declared.Consequence.TheVariants.{SpliceAcceptorVariant, SpliceDonorVariant, SpliceRegionVariant, CodingSequenceVariant, FivePrimeUtrVariant, ThreePrimeUtrVariant, NonCodingTranscriptExonVariant, IntronVariant, NonCodingTranscriptVariant, UpstreamGeneVariant, DownstreamGeneVariant}
 use Rattle.terms.specs.Terms.{only, with_term_if}
+use Rattle.locate.specs.declared.CdsOffset.{CdsOffset}
+use Rattle.consequence.specs.declared.CodingPlace.{CodingPlace}
 use Rattle.consequence.specs.declared.region.Region.{Region}
 
 -- a short intron has no splice or intron term
 abbrev pub frameshift_term : Bool → Consequence
 frameshift_term true = CodingSequenceVariant
 frameshift_term false = NonCodingTranscriptVariant
+
+-- a coding base in its exon and segment, from what CdsExon says, and back
+abbrev pub coding_place : ℕ → ℕ → CdsOffset → ℕ → ℕ → Bool → CodingPlace
+coding_place i g o n k m = record { base = record { offset = o; number = n; position = k }; exon = i; segment = g; mark = m }
+
+abbrev pub cds_exon : CodingPlace → VariantLocation
+cds_exon b = CdsExon b.exon b.segment b.base.offset b.base.number b.base.position b.mark
 
 -- the index of the exon or intron, its term and its splice mark; a coding base has its codon in place of a term. SpliceRegion has the
 -- mark of an intron
@@ -19,7 +28,7 @@ region_of coding (Upstream d) = Region.Flank UpstreamGeneVariant
 region_of coding (Downstream d) = Region.Flank DownstreamGeneVariant
 region_of coding Distal = Region.Distal
 region_of coding (FivePrimeUtr i d m) = Region.Exon i FivePrimeUtrVariant m
-region_of coding (CdsExon i g o n k m) = Region.Coding i o n k m
+region_of coding (CdsExon i g o n k m) = Region.Coding (coding_place i g o n k m)
 region_of coding (ThreePrimeUtr i d m) = Region.Exon i ThreePrimeUtrVariant m
 region_of coding (SpliceDonor i d) = Region.Intron i SpliceDonorVariant false
 region_of coding (SpliceAcceptor i d) = Region.Intron i SpliceAcceptorVariant false
@@ -39,4 +48,4 @@ region_terms codon Region.Distal = 0
 region_terms codon (Region.Flank c) = only c
 region_terms codon (Region.Intron i c m) = with_mark m (only c)
 region_terms codon (Region.Exon i c m) = with_mark m (only c)
-region_terms codon (Region.Coding i o n k m) = with_mark m codon
+region_terms codon (Region.Coding b) = with_mark b.mark codon

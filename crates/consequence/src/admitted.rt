@@ -2,18 +2,15 @@
 ghost use Rattle.std.specs.Prelude.{◌≡◌};
 ghost use Rattle.transcript.specs.Transcript.{transcript_of};
 ghost use Rattle.consequence.specs.Window.{window_of};
-ghost use Rattle.consequence.specs.Call.{call_table, annotate_snv};
-ghost use Rattle.codon.specs.code.Letters.{LentLetters};
+ghost use Rattle.consequence.specs.Call.{annotate_snv};
 ghost use Rattle.consequence.specs.code.Prepared.{Prepared};
 
 use super::placed::annotate_placed;
 use super::refusal::judge_opening;
-use super::{Call, Called, Window};
-use codon::CodeLetters;
+use super::{Call, Called, CodedTranscript, Window};
 use footprint::Ranges;
 use locate::IndexScalars;
 use locate::place::place_of_base;
-use transcript::Transcript;
 use transcript::admission::Admitted;
 use transcript::question::base_of;
 
@@ -21,21 +18,20 @@ use transcript::question::base_of;
 // is called: with one struct that lends them a call of a list took 3.5 to 5 ns longer, a tenth for short transcripts.
 pub fn annotate_admitted(
     ranges: Ranges,
-    letters: CodeLetters,
+    coded: CodedTranscript,
     window: &Window,
     call: Call,
-    transcript: &Transcript,
     scalars: IndexScalars,
     cumulative_exons: &[u32],
     cumulative_cds: &[u32],
     selenocysteine_codons: &[u32; 64],
 ) -> Called
-    requires prepared { Prepared (transcript_of transcript.now) scalars cumulative_exons.now cumulative_cds.now selenocysteine_codons.now }
-    requires letters { LentLetters (call_table (transcript_of transcript.now)) letters }
-    ensures { let t = transcript_of transcript.now in
+    requires prepared { Prepared (transcript_of coded.transcript.now) scalars cumulative_exons.now cumulative_cds.now selenocysteine_codons.now }
+    ensures { let t = transcript_of coded.entry.transcript.now in
         let w = window_of window.now in
         result ≡ annotate_snv ranges t w call }
 {
+    let transcript = coded.transcript;
     judge_opening(transcript.model.chromosome, window, call)?;
     let p = base_of(transcript.model.strand, call.position);
     let place = place_of_base::<true>(
@@ -47,10 +43,9 @@ pub fn annotate_admitted(
     );
     annotate_placed(
         ranges,
-        letters,
+        coded,
         window,
         call.alt_base,
-        transcript,
         scalars,
         cumulative_exons,
         cumulative_cds,

@@ -1,7 +1,7 @@
 // The answer for a base outside the exons, and the splice spill.
-ghost use Rattle.std.specs.Prelude.{◌≡◌, ◌<◌, length};
+ghost use Rattle.std.specs.Prelude.{◌≡◌, ℕ, ◌+◌, ◌-◌, ◌<◌, length};
 ghost use Rattle.transcript.specs.Orient.{Oriented};
-ghost use Rattle.consequence.specs.Answer.{flank_result, intron_result};
+ghost use Rattle.consequence.specs.Answer.{nth_of, flank_result, intron_result};
 ghost use Rattle.consequence.specs.Call.{add_splice_spill};
 
 use super::{ConsequenceResult, Numbered};
@@ -26,31 +26,30 @@ pub(crate) fn flank_result(place: VariantLocation, terms: TermSet) -> Consequenc
     }
 }
 
-// In intron i of a transcript of so many exons.
+// The exon or intron of index i, of so many.
+pub(crate) fn nth_of(i: u16, total: u16) -> Numbered
+    requires { i < 65535 }
+    ensures { result ≡ nth_of (i + 1) total }
+{
+    Numbered {
+        number: i + 1,
+        total,
+    }
+}
+
+// In an intron.
 pub(crate) fn intron_result(
     place: VariantLocation,
-    exons: u16,
-    i: u16,
+    intron: Numbered,
     terms: TermSet,
 ) -> ConsequenceResult
-    requires { (i < 65535) × (0 < exons) }
-    ensures { (t : Oriented)
-        → length t.exons ≡ exons
+    ensures { (t : Oriented) (i : ℕ)
+        → intron ≡ nth_of (i + 1) (length t.exons - 1)
         → result ≡ intron_result t place i terms.0 }
 {
     ConsequenceResult {
-        location: place,
-        exon: None,
-        intron: Some(Numbered {
-            number: i + 1,
-            total: exons - 1,
-        }),
-        cds_position: None,
-        cdna_position: None,
-        protein_start: None,
-        codons: None,
-        amino_acids: None,
-        consequences: terms,
+        intron: Some(intron),
+        ..flank_result(place, terms)
     }
 }
 

@@ -7,7 +7,6 @@ ghost use Rattle.locate.specs.code.Ordered.{in_order};
 ghost use Rattle.locate.specs.code.Sums.{first_sum, Sums};
 
 use locate::{CdnaPosition, Ordered};
-use transcript::oriented::start_of;
 
 // The position of p, an oriented base of exon i: the exonic bases before the exon and its place there, from 1.
 pub(crate) fn compute_cdna_position_exonic(
@@ -21,9 +20,7 @@ pub(crate) fn compute_cdna_position_exonic(
         (i < length exons.intervals.starts.now) × (x.start ≤ p) × (p < x.end) }
     ensures { result.0 ≡ bases_in (in_order exons.entry) 0 p + 1 }
 {
-    let s = exons.intervals.starts[i];
-    let e = exons.intervals.ends[i];
-    let d = p - start_of(exons.strand, s, e);
+    let d = p - exons.start(i);
     CdnaPosition(sums[i] + d as u32 + 1)
 }
 

@@ -1,5 +1,5 @@
 // The codon of a coding base, read and translated.
-ghost use Rattle.std.specs.Prelude.{◌≡◌, Bool, List, ℕ, ◌<◌, ◌≤◌, length, get_or};
+ghost use Rattle.std.specs.Prelude.{◌≡◌, List, ℕ, ◌<◌, ◌≤◌, length, get_or};
 ghost use Rattle.codon.specs.code.Letters.{LentLetters};
 ghost use Rattle.transcript.specs.Orient.{Oriented};
 ghost use Rattle.locate.specs.code.Ordered.{in_order};
@@ -10,19 +10,21 @@ ghost use Rattle.consequence.specs.Window.{window_of, coding_byte, coding_base};
 ghost use Rattle.consequence.specs.Reading.{fetch_codon};
 ghost use Rattle.consequence.specs.code.AtPlace.{coding_called, columns_called};
 ghost use Rattle.consequence.specs.code.Segments.{Segments};
+ghost use Rattle.consequence.specs.declared.CodingPlace.{CodingPlace};
 
-use super::Window;
 use super::bases::coding_byte;
 use super::columns::{CodonColumns, read_codon};
 use super::letters::{is_padded_codon, is_start_codon};
 use super::reading::{fetch_ref_codon, is_incomplete_terminal_codon};
 use super::selenocysteine::holds_selenocysteine;
+use super::{CodingBase, Window};
 use codon::CodeLetters;
-use locate::{CdsOffset, IndexScalars, Ordered};
+use locate::{IndexScalars, Ordered};
 
-// What the codon of that number at a padded offset gives, unless it is not all in the window, with `alt_base` put in at that place in it,
+// What the codon of a coding base gives, unless it is not all in the window, with `alt_base` put in at its place in it,
 // by the letters of a genetic code.
-// Segment `near` may hold the offset.
+// Segment `near` may hold the offset. The segments and their sums stand apart: as one struct a call of a list took a twentieth to a fifth
+// longer.
 pub fn read_cds_codon(
     letters: CodeLetters,
     scalars: IndexScalars,
@@ -33,14 +35,12 @@ pub fn read_cds_codon(
     window: &Window,
     alt_base: u8,
     near: usize,
-    offset: CdsOffset,
-    number: u32,
-    position: u8,
+    coding: CodingBase,
 ) -> Option<CodonColumns>
     requires segments { Segments (in_order segments.now) sums.now scalars.cds_start_pad }
     requires segment_count_value { (scalars.segment_count ≡ length segments.now.intervals.starts.now)
         × (scalars.total_cds_length ≡ get_or sums.now (length segments.now.intervals.starts.now) 0)
-        × (offset.0 < scalars.total_cds_length) }
+        × (coding.offset.0 < scalars.total_cds_length) }
     requires selenocysteine_count_bound { (scalars.selenocysteine_count ≤ 64) × (scalars.selenocysteine_count ≤ length codons.now) }
     ensures { let base = coding_base segments.now.strand (window_of window.now) in
         ((table : List ℕ) (t : Oriented)
@@ -49,19 +49,20 @@ pub fn read_cds_codon(
         → t.start_complete ≡ start_complete
         → t.segments ≡ in_order segments.now
         → codons.now ≡ filled 64 (selenocysteine_codons t)
-        → (p : ℕ) (place : VariantLocation) (i : ℕ) (mark : Bool)
-        → columns_called t p place i offset number position mark result
-        ≡ coding_called table t p (coding_byte segments.now.strand alt_base) place i offset number position mark (fetch_codon t base offset.0)) }
+        → (p : ℕ) (place : VariantLocation) (there : CodingPlace)
+        → there.base ≡ coding
+        → columns_called t p place there result
+        ≡ coding_called table t p (coding_byte segments.now.strand alt_base) place there (fetch_codon t base coding.offset.0)) }
 {
-    let c = fetch_ref_codon(scalars, segments, sums, window, near, offset.0)?;
+    let c = fetch_ref_codon(scalars, segments, sums, window, near, coding.offset.0)?;
     Some(read_codon(
         letters,
-        is_start_codon(scalars.cds_start_pad, start_complete, number),
-        is_padded_codon(scalars.cds_start_pad, number),
-        is_incomplete_terminal_codon(scalars.total_cds_length, offset.0),
-        holds_selenocysteine(codons, scalars.selenocysteine_count, number),
+        is_start_codon(scalars.cds_start_pad, start_complete, coding.number),
+        is_padded_codon(scalars.cds_start_pad, coding.number),
+        is_incomplete_terminal_codon(scalars.total_cds_length, coding.offset.0),
+        holds_selenocysteine(codons, scalars.selenocysteine_count, coding.number),
         c,
-        position,
+        coding,
         coding_byte(segments.strand, alt_base),
     ))
 }

@@ -9,33 +9,24 @@ ghost use Rattle.common.specs.Stored.{filled};
 ghost use Rattle.locate.specs.Index.{selenocysteine_codons, index_scalars};
 ghost use Rattle.consequence.specs.Window.{window_of, coding_byte, coding_base};
 ghost use Rattle.consequence.specs.Reading.{fetch_codon};
+ghost use Rattle.consequence.specs.Answer.{nth_of};
 ghost use Rattle.consequence.specs.code.AtPlace.{coding_called};
 ghost use Rattle.consequence.specs.code.Segments.{Segments};
 
 use super::cds_codon::read_cds_codon;
 use super::exonic::coding_result;
 use super::region::with_mark;
-use super::{Called, Window};
+use super::{Called, CodingPlace, Numbered, Window};
 use codon::CodeLetters;
 use common::refusal::Refusal;
-use locate::{CdsOffset, IndexScalars, Ordered, VariantLocation, cdna_position};
+use locate::{IndexScalars, Ordered, VariantLocation, cdna_position};
 
-// The segment of exon i, where `first` is the first coding exon.
-fn near_segment(i: u16, first: u16) -> usize
-    ensures { result ≡ i - first }
-{
-    if i < first {
-        return 0;
-    }
-    (i - first) as usize
-}
-
-// A base of exon i at that padded offset, of that codon and place in it, marked or not, with `alt_base` put in. Refusal 21 where the
-// codon is not all in the window.
+// `alt_base` is put in at a coding base. Refusal 21 where its codon is not all in the window. Segments and sums apart, as in
+// read_cds_codon.
 pub(crate) fn annotate_cds_snv(
     letters: CodeLetters,
     place: VariantLocation,
-    exons: u16,
+    exon: Numbered,
     scalars: IndexScalars,
     start_complete: bool,
     segments: &Ordered,
@@ -43,32 +34,26 @@ pub(crate) fn annotate_cds_snv(
     codons: &[u32; 64],
     window: &Window,
     alt_base: u8,
-    i: u16,
-    offset: CdsOffset,
-    number: u32,
-    position: u8,
-    mark: bool,
+    coding: CodingPlace,
 ) -> Called
     requires segments { Segments (in_order segments.now) sums.now scalars.cds_start_pad }
     requires segment_count_value { (scalars.segment_count ≡ length segments.now.intervals.starts.now)
         × (scalars.total_cds_length ≡ get_or sums.now (length segments.now.intervals.starts.now) 0)
-        × (offset.0 < scalars.total_cds_length) }
+        × (coding.base.offset.0 < scalars.total_cds_length) }
     requires selenocysteine_count_bound { (scalars.selenocysteine_count ≤ 64) × (scalars.selenocysteine_count ≤ length codons.now) }
-    requires i_bound { (i < 65535)
-        × (offset.0 ≤ 2 + top)
-        × (scalars.cds_start_pad ≤ offset.0)
-        × (scalars.utr5_exonic_len + (offset.0 - scalars.cds_start_pad) ≤ top) }
+    requires offset_bound { (coding.base.offset.0 ≤ 2 + top)
+        × (scalars.cds_start_pad ≤ coding.base.offset.0)
+        × (scalars.utr5_exonic_len + (coding.base.offset.0 - scalars.cds_start_pad) ≤ top) }
     ensures { let base = coding_base segments.now.strand (window_of window.now) in
         ((table : List ℕ) (t : Oriented) (p : ℕ)
         → LentLetters table letters.entry
-        → length t.exons ≡ exons
+        → exon ≡ nth_of (coding.exon + 1) (length t.exons)
         → scalars ≡ index_scalars t
         → t.start_complete ≡ start_complete
         → t.segments ≡ in_order segments.now
         → codons.now ≡ filled 64 (selenocysteine_codons t)
-        → cdna_position t p ≡ scalars.utr5_exonic_len + (offset.0 - scalars.cds_start_pad) + 1
-        → result ≡ coding_called table t p (coding_byte segments.now.strand alt_base)
-        place i offset number position mark (fetch_codon t base offset.0)) }
+        → cdna_position t p ≡ scalars.utr5_exonic_len + (coding.base.offset.0 - scalars.cds_start_pad) + 1
+        → result ≡ coding_called table t p (coding_byte segments.now.strand alt_base) place coding (fetch_codon t base coding.base.offset.0)) }
 {
     let read = read_cds_codon(
         letters,
@@ -79,17 +64,17 @@ pub(crate) fn annotate_cds_snv(
         codons,
         window,
         alt_base,
-        near_segment(i, scalars.cds_start_exon_idx),
-        offset,
-        number,
-        position,
+        coding.segment as usize,
+        coding.base,
     );
     let Some(columns) = read else {
         return Err(Refusal::CodonOutsideWindow);
     };
-    let cdna = cdna_position(scalars.utr5_exonic_len, scalars.cds_start_pad, offset);
-    let terms = with_mark(columns.terms, mark);
-    Ok(coding_result(
-        place, exons, i, offset, number, position, cdna, columns, terms,
-    ))
+    let cdna = cdna_position(
+        scalars.utr5_exonic_len,
+        scalars.cds_start_pad,
+        coding.base.offset,
+    );
+    let terms = with_mark(columns.terms, coding.mark);
+    Ok(coding_result(place, exon, coding.base, cdna, columns, terms))
 }

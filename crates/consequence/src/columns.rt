@@ -8,11 +8,12 @@ ghost use Rattle.consequence.specs.Coding.{is_start_codon, is_padded_codon};
 ghost use Rattle.consequence.specs.code.AtPlace.{columns_of};
 ghost use Rattle.consequence.specs.Answer.{incomplete_codon, whole_codon, read_codon};
 
+use super::CodingBase;
 use super::letters::{shown_letters, shows_codon};
 use codon::{AminoAcids, CodeLetters, Codon, build_alt_codon, translate_codons};
 use terms::{Consequence, TermSet, coding_term};
 
-// Codon number and codons are shown or not; an answer has them as options, which cost moves where they are handed on.
+// Codon number and codons are shown or not. No options, as an answer has: each column that `shown` governs would be matched apart.
 #[derive(Clone, Copy)]
 pub struct CodonColumns {
     pub shown: bool,
@@ -24,7 +25,7 @@ pub struct CodonColumns {
 
 // An unfinished last codon: its own bases as codons, letter X.
 fn incomplete_codon(c: Codon, altered: Codon) -> CodonColumns
-    ensures { (offset number k : ℕ) → columns_of offset number k result ≡ incomplete_codon offset number c altered k }
+    ensures { (b : CodingBase) → columns_of b result ≡ incomplete_codon b.offset.0 b.number c altered b.position }
 {
     let first = TermSet::of(Consequence::IncompleteTerminalCodonVariant);
     let terms = first.with(Consequence::CodingSequenceVariant);
@@ -46,10 +47,10 @@ fn whole_codon(
     reference_letter: u8,
     altered_letter: u8,
 ) -> CodonColumns
-    ensures { (t : Oriented) (offset number k : ℕ)
-        → start ≡ is_start_codon t number
-        → padded ≡ is_padded_codon t number
-        → columns_of offset number k result ≡ whole_codon t offset number c altered k reference_letter altered_letter }
+    ensures { (t : Oriented) (b : CodingBase)
+        → start ≡ is_start_codon t b.number
+        → padded ≡ is_padded_codon t b.number
+        → columns_of b result ≡ whole_codon t b.offset.0 b.number c altered b.position reference_letter altered_letter }
 {
     CodonColumns {
         shown: shows_codon(padded, reference_letter),
@@ -60,7 +61,7 @@ fn whole_codon(
     }
 }
 
-// The codon c, whose base at place k becomes the base put in, by the letters of a genetic code.
+// The codon c of a coding base, which becomes the base put in, by the letters of a genetic code.
 pub(crate) fn read_codon(
     letters: CodeLetters,
     start: bool,
@@ -68,17 +69,19 @@ pub(crate) fn read_codon(
     incomplete: bool,
     selenocysteine: bool,
     c: Codon,
-    k: u8,
+    coding: CodingBase,
     b: u8,
 ) -> CodonColumns
-    ensures { (table : List ℕ) (t : Oriented) (offset number : ℕ)
+    ensures { (table : List ℕ) (t : Oriented)
         → LentLetters table letters.entry
-        → start ≡ is_start_codon t number
-        → padded ≡ is_padded_codon t number
-        → incomplete ≡ is_incomplete_terminal_codon t offset
-        → selenocysteine ≡ holds_selenocysteine t number
-        → columns_of offset number k result ≡ read_codon table t offset number c (build_alt_codon c k b) k }
+        → start ≡ is_start_codon t coding.number
+        → padded ≡ is_padded_codon t coding.number
+        → incomplete ≡ is_incomplete_terminal_codon t coding.offset.0
+        → selenocysteine ≡ holds_selenocysteine t coding.number
+        → columns_of coding result
+        ≡ read_codon table t coding.offset.0 coding.number c (build_alt_codon c coding.position b) coding.position }
 {
+    let k = coding.position;
     let altered = build_alt_codon(c, k, b);
     if incomplete {
         return incomplete_codon(c, altered);

@@ -1,38 +1,33 @@
 // The answer for a base of an exon.
-ghost use Rattle.std.specs.Prelude.{◌≡◌, cond, ℕ, ◌+◌, ◌≤◌, ◌<◌, length};
+ghost use Rattle.std.specs.Prelude.{◌≡◌, cond, ℕ, ◌+◌, ◌≤◌, length};
 ghost use Rattle.codon.specs.Display.{change_at};
 ghost use Rattle.transcript.specs.Limits.{top};
 ghost use Rattle.transcript.specs.Orient.{Oriented};
 ghost use Rattle.locate.specs.Place.{cdna_position};
-ghost use Rattle.consequence.specs.Answer.{no_codon, exon_result};
+ghost use Rattle.consequence.specs.Answer.{nth_of, no_codon, exon_result};
 ghost use Rattle.consequence.specs.code.AtPlace.{columns_of};
 
 use super::columns::CodonColumns;
-use super::{ConsequenceResult, Numbered};
+use super::{CodingBase, ConsequenceResult, Numbered};
 use codon::{Codon, Codons};
-use locate::{CdnaPosition, CdsOffset, VariantLocation};
+use locate::{CdnaPosition, VariantLocation};
 use terms::TermSet;
 
-// In exon i, where the base is not coding.
+// In an exon, where the base is not coding.
 pub(crate) fn exon_result(
     place: VariantLocation,
-    exons: u16,
-    i: u16,
+    exon: Numbered,
     cdna: CdnaPosition,
     terms: TermSet,
 ) -> ConsequenceResult
-    requires { i < 65535 }
-    ensures { (t : Oriented) (p : ℕ)
-        → length t.exons ≡ exons
+    ensures { (t : Oriented) (p i : ℕ)
+        → exon ≡ nth_of (i + 1) (length t.exons)
         → cdna_position t p ≡ cdna.0
         → result ≡ exon_result t p place i no_codon terms.0 }
 {
     ConsequenceResult {
         location: place,
-        exon: Some(Numbered {
-            number: i + 1,
-            total: exons,
-        }),
+        exon: Some(exon),
         intron: None,
         cds_position: None,
         cdna_position: Some(cdna),
@@ -43,45 +38,33 @@ pub(crate) fn exon_result(
     }
 }
 
-// In exon i, at that padded offset, with what its codon gives.
+// In an exon at a coding base, with what its codon gives.
 pub(crate) fn coding_result(
     place: VariantLocation,
-    exons: u16,
-    i: u16,
-    offset: CdsOffset,
-    number: u32,
-    position: u8,
+    exon: Numbered,
+    base: CodingBase,
     cdna: CdnaPosition,
     c: CodonColumns,
     terms: TermSet,
 ) -> ConsequenceResult
-    requires { (i < 65535) × (offset.0 ≤ 2 + top) }
-    ensures { (t : Oriented) (p : ℕ)
-        → length t.exons ≡ exons
+    requires { base.offset.0 ≤ 2 + top }
+    ensures { (t : Oriented) (p i : ℕ)
+        → exon ≡ nth_of (i + 1) (length t.exons)
         → cdna_position t p ≡ cdna.0
-        → result ≡ exon_result t p place i (columns_of offset.0 number position c) terms.0 }
+        → result ≡ exon_result t p place i (columns_of base c) terms.0 }
 {
-    let protein_start = if c.shown { Some(number) } else { None };
-    let codons = if c.shown {
-        Some(Codons {
-            reference: c.reference,
-            altered: c.altered,
-            place: position,
-        })
-    } else {
-        None
-    };
     ConsequenceResult {
         location: place,
-        exon: Some(Numbered {
-            number: i + 1,
-            total: exons,
-        }),
+        exon: Some(exon),
         intron: None,
-        cds_position: Some(offset.0 + 1),
+        cds_position: Some(base.offset.0 + 1),
         cdna_position: Some(cdna),
-        protein_start,
-        codons,
+        protein_start: c.shown.then_some(base.number),
+        codons: c.shown.then_some(Codons {
+            reference: c.reference,
+            altered: c.altered,
+            place: base.position,
+        }),
         amino_acids: c.letters,
         consequences: terms,
     }

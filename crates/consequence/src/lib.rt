@@ -1,6 +1,10 @@
 // The single-base call: its types and its questions.
 #![tactic(auto)]
 
+ghost use Rattle.codon.specs.code.Letters.{LentLetters};
+ghost use Rattle.transcript.specs.Transcript.{transcript_of};
+ghost use Rattle.consequence.specs.Call.{call_table};
+
 mod admitted;
 mod answer;
 mod bases;
@@ -27,10 +31,10 @@ pub use bases::base_at;
 pub use cdna::cdna_count;
 pub use cds_codon::read_cds_codon;
 pub use code::call_letters;
-use codon::{AminoAcids, Codons};
+use codon::{AminoAcids, CodeLetters, Codons};
 pub use columns::CodonColumns;
 use common::refusal::Refusal;
-use locate::{CdnaPosition, VariantLocation};
+use locate::{CdnaPosition, CdsOffset, VariantLocation};
 pub use placed::annotate_placed;
 pub use refusal::judge_opening;
 pub use region::with_mark;
@@ -38,6 +42,7 @@ pub use snv::annotate_snv;
 pub use spill::spill_at;
 pub use summed::annotate_summed;
 use terms::TermSet;
+use transcript::Transcript;
 
 // A chromosome, the coordinate of its first base, and lent bytes, taken as they stand.
 #[derive(Clone, Copy)]
@@ -53,6 +58,31 @@ pub struct Call {
     pub position: u64,
     pub ref_base: u8,
     pub alt_base: u8,
+}
+
+// A transcript with the letters of its genetic code.
+#[derive(Clone, Copy)]
+pub struct CodedTranscript<'a> {
+    pub letters: CodeLetters<'a>,
+    pub transcript: &'a Transcript<'a>,
+    pub ghost read: { LentLetters (call_table (transcript_of transcript.now)) letters },
+}
+
+// A coding base: its padded offset, the number of its codon and its place in it.
+#[derive(Clone, Copy)]
+pub struct CodingBase {
+    pub offset: CdsOffset,
+    pub number: u32,
+    pub position: u8,
+}
+
+// The same in its exon and segment, with the splice mark: what CdsExon says.
+#[derive(Clone, Copy)]
+pub struct CodingPlace {
+    pub base: CodingBase,
+    pub exon: u16,
+    pub segment: u16,
+    pub mark: bool,
 }
 
 // An exon or intron number k of n.

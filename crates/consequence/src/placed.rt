@@ -1,6 +1,5 @@
 // The answer at a place, with its splice spill.
 ghost use Rattle.std.specs.Prelude.{◌≡◌, ◌≤◌};
-ghost use Rattle.codon.specs.code.Letters.{LentLetters};
 ghost use Rattle.transcript.specs.Limits.{top};
 ghost use Rattle.transcript.specs.Transcript.{transcript_of};
 ghost use Rattle.transcript.specs.Orient.{oriented};
@@ -13,20 +12,17 @@ ghost use Rattle.consequence.specs.code.Prepared.{Prepared};
 use super::answer::add_splice_spill;
 use super::place::annotate_place;
 use super::spill::spill_at;
-use super::{Called, Window};
-use codon::CodeLetters;
+use super::{Called, CodedTranscript, Window};
 use footprint::Ranges;
 use locate::{IndexScalars, Ordered, VariantLocation};
-use transcript::Transcript;
 use transcript::admission::Admitted;
 
 // `place` is that of p, an oriented base, and `alt_base` is put in there. Refusals 19 and 21.
 pub fn annotate_placed(
     ranges: Ranges,
-    letters: CodeLetters,
+    coded: CodedTranscript,
     window: &Window,
     alt_base: u8,
-    transcript: &Transcript,
     scalars: IndexScalars,
     cumulative_exons: &[u32],
     cumulative_cds: &[u32],
@@ -34,21 +30,19 @@ pub fn annotate_placed(
     place: VariantLocation,
     p: u64,
 ) -> Called
-    requires prepared { Prepared (transcript_of transcript.now) scalars cumulative_exons.now cumulative_cds.now selenocysteine_codons.now }
-    requires located { place ≡ locate ranges (oriented (transcript_of transcript.now)) p }
-    requires letters { LentLetters (call_table (transcript_of transcript.now)) letters }
+    requires prepared { Prepared (transcript_of coded.transcript.now) scalars cumulative_exons.now cumulative_cds.now selenocysteine_codons.now }
+    requires located { place ≡ locate ranges (oriented (transcript_of coded.transcript.now)) p }
     requires low { p ≤ top }
-    ensures { let t = transcript_of transcript.now in
+    ensures { let t = transcript_of coded.entry.transcript.now in
         let w = window_of window.now in
-        let x = place_called (call_table t) (oriented t) p (coding_byte transcript.now.model.strand alt_base) (call_codon t w) place in
+        let x = place_called (call_table t) (oriented t) p (coding_byte t.model.strand alt_base) (call_codon t w) place in
         result ≡ spilled (spill_at (oriented t) p) x }
 {
     let result = annotate_place(
         ranges,
-        letters,
+        coded,
         window,
         alt_base,
-        transcript,
         scalars,
         cumulative_exons,
         cumulative_cds,
@@ -58,7 +52,9 @@ pub fn annotate_placed(
     )?;
     let spill = spill_at(
         scalars.has_frameshift_intron,
-        Ordered::exons(Admitted { transcript }),
+        Ordered::exons(Admitted {
+            transcript: coded.transcript,
+        }),
         p,
     );
     Ok(add_splice_spill(spill, result))

@@ -1,7 +1,6 @@
 // Reading a codon: the coding bases at its padded offsets.
 ghost use Rattle.std.specs.Prelude.{◌≡◌, ◌+◌, ◌-◌, ◌<◌, ◌≤◌, length, get_or};
-ghost use Rattle.transcript.specs.Limits.{coordinate_limit};
-ghost use Rattle.transcript.specs.Orient.{Oriented, orient, orient_base};
+ghost use Rattle.transcript.specs.Orient.{Oriented};
 ghost use Rattle.locate.specs.Place.{total_cds_length};
 ghost use Rattle.locate.specs.code.Ordered.{in_order};
 ghost use Rattle.consequence.specs.Window.{window_of, coding_base};
@@ -13,18 +12,7 @@ use super::bases::coding_base_at;
 use super::segment::{next_segment, segment_near};
 use codon::Codon;
 use locate::{IndexScalars, Ordered};
-use transcript::Strand;
-
-// Base d of [s, e) in strand order, as a coordinate.
-fn nth_base(strand: Strand, s: u64, e: u64, d: u64) -> u64
-    requires { (d < e - s) × (e ≤ coordinate_limit) }
-    ensures { result ≡ orient_base strand ((orient strand s e).start + d) }
-{
-    match strand {
-        Strand::Plus => s + d,
-        Strand::Minus => e - 1 - d,
-    }
-}
+use transcript::question::base_of;
 
 // The base at padded offset k, in segment i; a pad place reads N.
 fn cds_base(
@@ -46,10 +34,8 @@ fn cds_base(
     if k < pad {
         return Some(b'N');
     }
-    let s = segments.intervals.starts[i];
-    let e = segments.intervals.ends[i];
     let d = k - sums[i];
-    let p = nth_base(segments.strand, s, e, d as u64);
+    let p = base_of(segments.strand, segments.start(i) + d as u64);
     coding_base_at(segments.strand, window, p)
 }
 
@@ -86,7 +72,7 @@ fn codon_of(len: u8, first: u8, second: u8, third: u8) -> Codon
 }
 
 // The codon that holds padded offset k: its bases, unless one lies outside the window. Segment `near` may hold k; if it does, no search
-// is needed.
+// is needed. Segments and sums apart, as in read_cds_codon.
 pub(crate) fn fetch_ref_codon(
     scalars: IndexScalars,
     segments: &Ordered,

@@ -2,11 +2,12 @@
 ghost use Rattle.std.specs.Prelude.{◌≡◌};
 ghost use Rattle.consequence.specs.Region.{frameshift_term, region_of, with_mark};
 
-use locate::{CdsOffset, VariantLocation};
+use super::{CodingBase, CodingPlace};
+use locate::VariantLocation;
 use terms::{Consequence, TermSet};
 
-// The index of the exon or intron, its term and its splice mark. A coding base has its padded offset, its codon number and its place in
-// the codon in place of a term.
+// The index of the exon or intron, its term and its splice mark. A coding base has its codon in place of a term. `Distal` is a case and
+// no refusal of a Result: a place is in one region, and only a call is refused there.
 #[derive(Clone, Copy)]
 pub enum Region {
     Distal,
@@ -23,13 +24,7 @@ pub enum Region {
         term: Consequence,
         mark: bool,
     },
-    Coding {
-        index: u16,
-        offset: CdsOffset,
-        number: u32,
-        position: u8,
-        mark: bool,
-    },
+    Coding(CodingPlace),
 }
 
 // The term of a short intron.
@@ -72,18 +67,21 @@ pub(crate) fn region_of(place: VariantLocation, coding: bool) -> Region
         },
         VariantLocation::CdsExon {
             exon_index,
+            cds_segment_index,
             cds_offset,
             codon_number,
             codon_position,
             is_splice_region,
-            ..
-        } => Region::Coding {
-            index: exon_index,
-            offset: cds_offset,
-            number: codon_number,
-            position: codon_position,
+        } => Region::Coding(CodingPlace {
+            base: CodingBase {
+                offset: cds_offset,
+                number: codon_number,
+                position: codon_position,
+            },
+            exon: exon_index,
+            segment: cds_segment_index,
             mark: is_splice_region,
-        },
+        }),
         VariantLocation::ThreePrimeUtr {
             exon_index,
             is_splice_region,

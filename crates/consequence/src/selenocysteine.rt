@@ -12,7 +12,8 @@ fn stands_in(numbers: &[u32], number: u32) -> bool
     numbers.iter().any(|n| number == *n)
 }
 
-// Whether the number stands among the first `count` codon numbers.
+// Whether the number stands among the first `count` codon numbers. Array and count are lent as the index has them: whoever
+// lends them would take the part, and prove that the array has it, in each of two places.
 pub(crate) fn holds_selenocysteine(codons: &[u32; 64], count: usize, number: u32) -> bool
     requires { (count ≤ 64) × (count ≤ length codons.now) }
     ensures { (t : Oriented)

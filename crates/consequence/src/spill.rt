@@ -19,7 +19,7 @@ fn hits_donor(exons: Ordered, n: usize, p: u64) -> bool
     if n < 2 {
         return false;
     }
-    donor_spill(exons.intervals, exons.strand, n - 2, p)
+    donor_spill(exons.stranded(), n - 2, p)
 }
 
 // Whether p hits an acceptor window.
@@ -34,7 +34,7 @@ fn hits_acceptor(exons: Ordered, n: usize, p: u64) -> bool
     if n == exons.intervals.starts.len() {
         return false;
     }
-    acceptor_spill(exons.intervals, exons.strand, n - 1, p)
+    acceptor_spill(exons.stranded(), n - 1, p)
 }
 
 // The windows that p, an oriented base, hits. Without a short intron, `short`, there are none.

@@ -2,16 +2,13 @@
 ghost use Rattle.std.specs.Prelude.{◌≡◌};
 ghost use Rattle.transcript.specs.Transcript.{transcript_of};
 ghost use Rattle.consequence.specs.Window.{window_of};
-ghost use Rattle.consequence.specs.Call.{call_table, annotate_snv};
-ghost use Rattle.codon.specs.code.Letters.{LentLetters};
+ghost use Rattle.consequence.specs.Call.{annotate_snv};
 ghost use Rattle.consequence.specs.code.Prepared.{Summed};
 
 use super::admitted::annotate_admitted;
-use super::{Call, Called, Window};
-use codon::CodeLetters;
+use super::{Call, Called, CodedTranscript, Window};
 use footprint::Ranges;
 use locate::{Ordered, scalars_of, selenocysteine_codons};
-use transcript::Transcript;
 use transcript::admission::Admitted;
 
 // The answer from the cumulative lengths of exons and CDS and whether there is a short intron, or the number of the refusal: 15,
@@ -19,20 +16,19 @@ use transcript::admission::Admitted;
 // The sums apart, as in annotate_admitted.
 pub fn annotate_summed(
     ranges: Ranges,
-    letters: CodeLetters,
+    coded: CodedTranscript,
     window: &Window,
     call: Call,
-    transcript: &Transcript,
     cumulative_exons: &[u32],
     cumulative_cds: &[u32],
     short: bool,
 ) -> Called
-    requires summed { Summed (transcript_of transcript.now) cumulative_exons.now cumulative_cds.now short }
-    requires letters { LentLetters (call_table (transcript_of transcript.now)) letters }
-    ensures { let t = transcript_of transcript.now in
+    requires summed { Summed (transcript_of coded.transcript.now) cumulative_exons.now cumulative_cds.now short }
+    ensures { let t = transcript_of coded.entry.transcript.now in
         let w = window_of window.now in
         result ≡ annotate_snv ranges t w call }
 {
+    let transcript = coded.transcript;
     let admitted = Admitted { transcript };
     let scalars = scalars_of(admitted, cumulative_exons, cumulative_cds, short);
     let codons = selenocysteine_codons(
@@ -43,10 +39,9 @@ pub fn annotate_summed(
     let selenocysteine_codons = codons.numbers;
     annotate_admitted(
         ranges,
-        letters,
+        coded,
         window,
         call,
-        transcript,
         scalars,
         cumulative_exons,
         cumulative_cds,

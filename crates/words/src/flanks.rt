@@ -1,12 +1,11 @@
 // The answers about an interval as numbers.
-ghost use Rattle.std.specs.Prelude.{◌≡◌, ◌≤◌, ◌∷◌, [], length, pos, Ok};
-ghost use Rattle.std.proofs.lemmas.List.Edits.{sets};
+ghost use Rattle.std.specs.Prelude.{◌≡◌, ◌∷◌, [], pos, Ok};
 ghost use Rattle.footprint.specs.Numbers.{flank_words, endpoint_words};
 ghost use Rattle.words.specs.IntervalWords.{interval_words};
 ghost use Rattle.words.specs.code.Put.{put_at};
 ghost use Rattle.words.specs.code.Near.{capped_flank};
 
-use crate::words::{cap, has_room, put_counts, put_three};
+use crate::words::{cap, put_fitting};
 use common::refusal::Refusal;
 use footprint::{Flank, SpliceSpill};
 
@@ -34,19 +33,24 @@ fn intron_counts(intron: Result<Option<u16>, Refusal>) -> (u32, u32)
 }
 
 // The answers as 7 numbers.
-fn store_interval(
-    out: &mut [i64],
+fn interval_numbers(
     flank: Flank,
     intron: Result<Option<u16>, Refusal>,
     spill: SpliceSpill,
-)
-    requires { 7 ≤ length out.old }
-    ensures { out.new ≡ sets out.old 0 (interval_words (Ok (capped_flank flank)) intron (Ok spill)) }
+) -> [i64; 7]
+    ensures { result ≡ interval_words (Ok (capped_flank flank)) intron (Ok spill) }
 {
     let (kind, distance) = flank_counts(flank);
     let (found, index) = intron_counts(intron);
-    put_counts(out, 0, 0, kind, distance, found);
-    put_three(out, 4, index, spill.donor as u32, spill.acceptor as u32);
+    [
+        0,
+        kind as i64,
+        distance as i64,
+        found as i64,
+        index as i64,
+        spill.donor as i64,
+        spill.acceptor as i64,
+    ]
 }
 
 // The same at the front of any buffer. Where it has fewer than 7 elements nothing is stored.
@@ -58,7 +62,5 @@ pub fn put_interval(
 )
     ensures { out.new ≡ put_at out.old 0 (interval_words (Ok (capped_flank flank)) intron (Ok spill)) }
 {
-    if has_room(out.len(), 0, 7) {
-        store_interval(out, flank, intron, spill);
-    }
+    put_fitting(out, 0, &interval_numbers(flank, intron, spill));
 }

@@ -55,6 +55,15 @@ pub struct VareffectCall {
     pub position: u64,
 }
 
+// Calls lent as four lists: callers in C lend them so.
+#[derive(Clone, Copy)]
+pub struct CallLists<'a> {
+    pub chromosomes: &'a [u16],
+    pub positions: &'a [u64],
+    pub refs: &'a [u8],
+    pub alts: &'a [u8],
+}
+
 // The number of a refusal, 0 for none, and what was asked for.
 #[repr(C)]
 #[derive(Clone, Copy)]

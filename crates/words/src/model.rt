@@ -14,15 +14,13 @@ fn strand_of(minus: bool) -> Strand
 fn bounds_of(has_cds: bool, start: u64, end: u64) -> Option<CdsBounds>
     ensures { result ≡ bounds_of has_cds start end }
 {
-    if !has_cds {
-        return None;
-    }
-    Some(CdsBounds {
+    has_cds.then_some(CdsBounds {
         cds_genomic_start: start,
         cds_genomic_end: end,
     })
 }
 
+// No `From`, as call_of.
 pub fn model_of(model: VareffectModel) -> TranscriptModel
     ensures { result ≡ model_of model }
 {

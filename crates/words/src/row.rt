@@ -1,12 +1,11 @@
 // A place as a row of numbers.
 ghost use Rattle.std.specs.Prelude.{◌≡◌, ◌∷◌, pos};
-ghost use Rattle.locate.specs.declared.VariantLocation.TheVariants.{CdsExon};
 ghost use Rattle.locate.specs.Numbers.{plain_words, place_words};
 ghost use Rattle.words.specs.code.Row.{row_words};
 ghost use Rattle.words.specs.code.Near.{capped_place};
 
-use crate::words::{cap, signed};
-use locate::{CdsOffset, VariantLocation};
+use crate::words::cap;
+use locate::VariantLocation;
 
 // The numbers of a place. All but the distance count.
 #[derive(Clone, Copy)]
@@ -36,34 +35,12 @@ fn plain(kind: u32, mark: u32, index: u16, distance: i64) -> Row
     }
 }
 
-// The row of a coding base.
-pub(crate) fn coding_row(
-    index: u16,
-    segment: u16,
-    offset: CdsOffset,
-    number: u32,
-    position: u8,
-    mark: bool,
-) -> Row
-    ensures { row_words result ≡ place_words (CdsExon index segment offset number position mark) }
-{
-    Row {
-        kind: 4,
-        mark: mark as u32,
-        index: index as u32,
-        segment: segment as u32,
-        position: position as u32,
-        distance: signed(offset.0),
-        number,
-    }
-}
-
 pub(crate) fn row_of(place: VariantLocation) -> Row
     ensures { row_words result ≡ place_words (capped_place place) }
 {
     match place {
-        VariantLocation::Upstream { distance } => plain(0, 0, 0, signed(cap(distance))),
-        VariantLocation::Downstream { distance } => plain(1, 0, 0, signed(cap(distance))),
+        VariantLocation::Upstream { distance } => plain(0, 0, 0, i64::from(cap(distance))),
+        VariantLocation::Downstream { distance } => plain(1, 0, 0, i64::from(cap(distance))),
         VariantLocation::Distal => plain(2, 0, 0, 0),
         VariantLocation::FivePrimeUtr {
             exon_index,
@@ -82,14 +59,15 @@ pub(crate) fn row_of(place: VariantLocation) -> Row
             codon_number,
             codon_position,
             is_splice_region,
-        } => coding_row(
-            exon_index,
-            cds_segment_index,
-            cds_offset,
-            codon_number,
-            codon_position,
-            is_splice_region,
-        ),
+        } => Row {
+            kind: 4,
+            mark: is_splice_region as u32,
+            index: exon_index as u32,
+            segment: cds_segment_index as u32,
+            position: codon_position as u32,
+            distance: i64::from(cds_offset.0),
+            number: codon_number,
+        },
         VariantLocation::ThreePrimeUtr {
             exon_index,
             offset_from_cds_end,
@@ -98,11 +76,11 @@ pub(crate) fn row_of(place: VariantLocation) -> Row
         VariantLocation::SpliceDonor {
             intron_index,
             offset,
-        } => plain(6, 0, intron_index, signed(offset as u32)),
+        } => plain(6, 0, intron_index, offset as i64),
         VariantLocation::SpliceAcceptor {
             intron_index,
             offset,
-        } => plain(7, 0, intron_index, signed(offset as u32)),
+        } => plain(7, 0, intron_index, offset as i64),
         VariantLocation::SpliceRegion {
             intron_index,
             side,
@@ -125,4 +103,21 @@ pub(crate) fn row_of(place: VariantLocation) -> Row
             distance_to_nearest_exon,
         } => plain(12, 0, intron_index, distance_to_nearest_exon),
     }
+}
+
+// A place behind the number 0.
+#[inline(always)]
+pub(crate) fn place_words(row: Row) -> [i64; 8]
+    ensures { result ≡ pos 0 ∷ row_words row }
+{
+    [
+        0,
+        row.kind as i64,
+        row.mark as i64,
+        row.index as i64,
+        row.segment as i64,
+        row.position as i64,
+        row.distance,
+        row.number as i64,
+    ]
 }

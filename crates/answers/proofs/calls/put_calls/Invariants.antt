@@ -10,5 +10,5 @@ use Rattle.answers.proofs.calls.put_calls.Given as goal
 abbrev pub invariant-loop-i : goal.invariant-loop-i
 invariant-loop-i l =
     let w = window_of l.window in
-    let calls = calls_of l.chromosomes l.positions l.refs l.alts in
-    (l.i ≤ length l.positions) × (l.out ≡ filled_to (call_words l.ranges (transcript_of l.indexed.transcript.now) w) 20 calls l.initial.out l.i)
+    let calls = calls_of l.calls.chromosomes.now l.calls.positions.now l.calls.refs.now l.calls.alts.now in
+    (l.i ≤ length l.calls.positions.now) × (l.out ≡ filled_to (call_words l.ranges (transcript_of l.coded.indexed.admitted.transcript.now) w) 20 calls l.initial.out l.i)

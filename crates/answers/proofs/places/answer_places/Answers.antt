@@ -1,16 +1,13 @@
 use Prim.Native.Nat.{◌*◌}
 use native.Mathlib.Omega.{arith}
-use mathlib.Core.Path.{refl, ◌∙◌, ap}
+use mathlib.Core.Path.{refl}
 use lib.ListN.{length}
 use lib.Dec.{eqb}
 use borrow.Author.Tests.{eq-eqb}
 use Rattle.std.proofs.lemmas.Result.{err_from_is_err_and}
 use Rattle.transcript.specs.Transcript.{transcript_of}
-use Rattle.transcript.specs.declared.Transcript.{Transcript as Lent}
 use Rattle.transcript.specs.Admission.{admission, admission_of}
-use Rattle.transcript.specs.Orient.{oriented}
-use Rattle.transcript.proofs.Lending.{is_admitted, is_lent, is_turned_away}
-use Rattle.locate.specs.Index.{locate_index}
+use Rattle.transcript.proofs.Lending.{is_turned_away}
 use Rattle.answers.proofs.Leaving.{not_admitted, list_refused}
 use Rattle.answers.proofs.places.answer_places.Goals as goal
 
@@ -23,15 +20,3 @@ returns-in_err-admitted c =
     let r = c.in_err-admitted.field-0.0 in
     rw (p.1, p.2)
     (list_refused (eqb n (8 * k)) (admission t) _ c.args.out.now (eq-eqb n (8 * k) (omega arith)) r (not_admitted t (admission_of t) r refl (is_turned_away c.args.transcript.now c.of.result c.of.ensures r c.in_err-admitted.was)))
-
-pub invariant_of-put_places : goal.invariant_of-put_places
-invariant_of-put_places c =
-    let x = c.args.transcript.now in
-    let a = c.in_ok-admitted.admitted in
-    let w = c.in_ok-admitted.was in
-    record {
-      ready = record {
-        admitted = is_admitted x c.of.result c.of.ensures a w;
-        indexed = c.index_of-index.ensures ∙ ap (λ (s : Lent). locate_index (oriented (transcript_of s))) (is_lent x c.of.result c.of.ensures a w);
-      };
-    }

@@ -18,10 +18,10 @@ use Rattle.answers.proofs.places.put_places.Goals as goal
 use Rattle.answers.proofs.places.put_places.Goals.{Start}
 
 abbrev words : Start → ℕ → List ℤ
-words b p = position_words b.args.ranges (transcript_of b.args.indexed.transcript.now) b.args.chromosome p
+words b p = position_words b.args.ranges (transcript_of b.args.indexed.admitted.transcript.now) b.args.chromosome p
 
 even : (b : Start) (p : ℕ) → length (words b p) ≡ 8
-even b p = located_length (locate_position b.args.ranges (transcript_of b.args.indexed.transcript.now) b.args.chromosome p)
+even b p = located_length (locate_position b.args.ranges (transcript_of b.args.indexed.admitted.transcript.now) b.args.chromosome p)
 
 pub loop-i-init : goal.loop-i-init
 loop-i-init c =
@@ -36,7 +36,7 @@ loop-i-preserved c =
     let p = get_or c.args.positions.now l.i 0 in
     let k = ap length l.invariant.1 ∙ filled_length (words b) 8 (even b) c.args.positions.now c.args.out.now c.requires.fits l.i l.invariant.0 in
     let e = c.requires.fits in
-    let near : Answers Near x.result = rw x.ensures (near_located c.args.ranges c.requires.near (transcript_of c.args.indexed.transcript.now) c.args.chromosome p (p + 1)) in (
+    let near : Answers Near x.result = rw x.ensures (near_located c.args.ranges c.requires.near (transcript_of c.args.indexed.admitted.transcript.now) c.args.chromosome p (p + 1)) in (
       omega arith,
       c.put_located.ensures
           ∙ located_fits l.out (8 * l.i) x.result (omega arith) near

@@ -1,10 +1,8 @@
 -- The words of a refusal, of a coding base, or of the answer at another place.
 use Prim.Native.Nat.{ℕ, ◌≤◌}
 use mathlib.Core.Path.{◌≡◌, refl, sym, ◌∙◌, ap}
-use mathlib.Core.List.{List}
-use lib.IntN.{ℤ}
-use lib.Seq.{sets}
-use Rattle.std.specs.Prelude.{Result, Ok}
+use native.Mathlib.Omega.{arith}
+use Rattle.std.specs.Prelude.{Result, Ok, Err}
 use Rattle.common.specs.declared.refusal.Refusal.{Refusal}
 use Rattle.common.specs.Refusal.{outcome}
 use Rattle.common.proofs.Outcome.{was_answered}
@@ -12,13 +10,14 @@ use Rattle.transcript.specs.Limits.{top}
 use Rattle.transcript.specs.Transcript.{Transcript, transcript_of}
 use Rattle.transcript.specs.Orient.{orient_base}
 use Rattle.transcript.proofs.Asking.{base_low}
-use Rattle.consequence.specs.Called.{Called}
 use Rattle.consequence.specs.Window.{Window, window_of}
 use Rattle.consequence.specs.Call.{opening_refusal}
 use Rattle.consequence.specs.Numbers.{called_words}
 use Rattle.consequence.proofs.Refusals.{opening_within}
 use Rattle.consequence.proofs.Calling.{refused, answered}
 use Rattle.words.specs.code.Near.{Answers, NearResult}
+use Rattle.words.proofs.Putting.{whole}
+use Rattle.words.proofs.WordLengths.{called_length}
 use Rattle.words.proofs.Capping.{called_fits}
 use Rattle.answers.proofs.NearCalls.{near_called}
 use Rattle.answers.proofs.Indexed.{prepared}
@@ -26,7 +25,7 @@ use Rattle.answers.proofs.snv.put_snv.Goals as goal
 use Rattle.answers.proofs.snv.put_snv.Goals.{Start}
 
 abbrev transcript : Start → Transcript
-transcript b = transcript_of b.args.indexed.transcript.now
+transcript b = transcript_of b.args.coded.indexed.admitted.transcript.now
 
 abbrev window : Start → Window
 window b = window_of b.args.window.now
@@ -38,50 +37,46 @@ opening b = opening_refusal (transcript b) (window b) b.args.call
 opened : (b : Start) (r : Result (Unit {0}) Refusal) (u : Unit {0}) → r ≡ outcome (opening b) tt → r ≡ Ok u → opening b ≡ 0
 opened b r u e o = was_answered tt (opening b) u (sym e ∙ o)
 
-low : (b : Start) (p : ℕ) → p ≡ orient_base b.args.indexed.transcript.now.model.strand b.args.call.position → opening b ≡ 0 → p ≤ top
-low b p e h = rw e (base_low b.args.indexed.transcript.now.model.strand b.args.call.position (opening_within (transcript b) (window b) b.args.call b.args.indexed.ready.admitted h))
-
--- the buffer with an answer
-abbrev left : Start → Called → List ℤ
-left b x = sets b.args.out.now b.args.at (called_words x)
+low : (b : Start) (p : ℕ) → p ≡ orient_base b.args.coded.indexed.admitted.transcript.now.model.strand b.args.call.position → opening b ≡ 0 → p ≤ top
+low b p e h = rw e (base_low b.args.coded.indexed.admitted.transcript.now.model.strand b.args.call.position (opening_within (transcript b) (window b) b.args.call b.args.coded.indexed.admitted.admitted h))
 
 pub returns-in-Err : goal.returns-in-Err
 returns-in-Err c =
     let b = (goal.at.returns-in-Err c).Start in
     let r = c.judge_opening-opening in
     rw c.from.ensures at c.put_refusal.ensures
-    ∙ ap (left b) (refused c.args.ranges (transcript b) (window b) c.args.call c.in-Err.refusal (sym (r.ensures (transcript b) c.args.indexed.ready.admitted refl) ∙ c.in-Err.is))
+    ∙ whole c.args.out.now (called_words (Err c.in-Err.refusal)) (omega arith)
+    ∙ ap called_words (refused c.args.ranges (transcript b) (window b) c.args.call c.in-Err.refusal (sym (r.ensures (transcript b) c.args.coded.indexed.admitted.admitted refl) ∙ c.in-Err.is))
 
 pub place_by_order-place-requires : goal.place_by_order-place-requires
 place_by_order-place-requires c =
     let b = (goal.at.place_by_order-place-requires c).Start in
     let r = c.judge_opening-opening in
-    low b c.base_of-p.result c.base_of-p.ensures (opened b r.result c.in_default.field-0 (r.ensures (transcript b) c.args.indexed.ready.admitted refl) c.in_default.is)
+    low b c.base_of-p.result c.base_of-p.ensures (opened b r.result c.in_default.field-0 (r.ensures (transcript b) c.args.coded.indexed.admitted.admitted refl) c.in_default.is)
 
 pub put_cds_snv-requires-clause-low : goal.put_cds_snv-requires-clause-low
 put_cds_snv-requires-clause-low c =
     let b = (goal.at.put_cds_snv-requires-clause-low c).Start in
     let r = c.judge_opening-opening in
-    low b c.base_of-p.result c.base_of-p.ensures (opened b r.result c.in_default.field-0 (r.ensures (transcript b) c.args.indexed.ready.admitted refl) c.in_default.is)
+    low b c.base_of-p.result c.base_of-p.ensures (opened b r.result c.in_default.field-0 (r.ensures (transcript b) c.args.coded.indexed.admitted.admitted refl) c.in_default.is)
 
 pub returns-in-CdsExon : goal.returns-in-CdsExon
 returns-in-CdsExon c =
     let b = (goal.at.returns-in-CdsExon c).Start in
     let r = c.judge_opening-opening in
     let p = c.base_of-p in
-    let o = opened b r.result c.in_default.field-0 (r.ensures (transcript b) c.args.indexed.ready.admitted refl) c.in_default.is in
+    let o = opened b r.result c.in_default.field-0 (r.ensures (transcript b) c.args.coded.indexed.admitted.admitted refl) c.in_default.is in
     c.put_cds_snv.ensures
-    ∙ ap (left b) (answered c.args.ranges (transcript b) (window b) c.args.call o p.result p.ensures _ (sym c.in-CdsExon.is ∙ c.place_by_order-place.ensures) _ refl _ refl)
+    ∙ ap called_words (answered c.args.ranges (transcript b) (window b) c.args.call o p.result p.ensures _ (sym c.in-CdsExon.is ∙ c.place_by_order-place.ensures) _ refl _ refl)
 
 pub annotate_placed-called-requires : goal.annotate_placed-called-requires
 annotate_placed-called-requires c =
     let b = (goal.at.annotate_placed-called-requires c).Start in
     let r = c.judge_opening-opening in
-    let o = opened b r.result c.in_default.field-0 (r.ensures (transcript b) c.args.indexed.ready.admitted refl) c.in_default.is in
+    let o = opened b r.result c.in_default.field-0 (r.ensures (transcript b) c.args.coded.indexed.admitted.admitted refl) c.in_default.is in
     record {
-      prepared = prepared c.args.indexed;
+      prepared = prepared c.args.coded.indexed;
       located = c.place_by_order-place.ensures;
-      letters = c.requires.letters;
       low = low b c.base_of-p.result c.base_of-p.ensures o;
     }
 
@@ -92,7 +87,8 @@ returns c =
     let p = c.base_of-p in
     let h = c.place_by_order-place in
     let x = c.annotate_placed-called in
-    let o = opened b r.result c.in_default.field-0 (r.ensures (transcript b) c.args.indexed.ready.admitted refl) c.in_default.is in
+    let o = opened b r.result c.in_default.field-0 (r.ensures (transcript b) c.args.coded.indexed.admitted.admitted refl) c.in_default.is in
     let e = x.ensures ∙ answered c.args.ranges (transcript b) (window b) c.args.call o p.result p.ensures h.result h.ensures _ refl _ refl in
     let near : Answers NearResult x.result = rw e (near_called c.args.ranges (transcript b) (window b) c.args.call c.requires.near) in
-    c.put_called.ensures ∙ called_fits c.args.out.now c.args.at x.result c.requires.room near ∙ ap (left b) e
+    let n = called_length x.result in
+    c.put_called.ensures ∙ called_fits c.args.out.now 0 x.result (omega arith) near ∙ whole c.args.out.now (called_words x.result) (omega arith) ∙ ap called_words e

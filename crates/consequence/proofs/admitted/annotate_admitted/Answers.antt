@@ -16,7 +16,7 @@ use Rattle.consequence.proofs.admitted.annotate_admitted.Goals as goal
 use Rattle.consequence.proofs.admitted.annotate_admitted.Goals.{Start}
 
 abbrev transcript : Start → Transcript
-transcript b = transcript_of b.args.transcript.now
+transcript b = transcript_of b.args.coded.transcript.now
 
 abbrev window : Start → Window
 window b = window_of b.args.window.now
@@ -32,8 +32,8 @@ returns-in_err-judge_opening c =
 opened : (b : Start) (r : Result (Unit {0}) Refusal) (u : Unit {0}) → r ≡ outcome (opening_refusal (transcript b) (window b) b.args.call) tt → r ≡ Ok u → opening_refusal (transcript b) (window b) b.args.call ≡ 0
 opened b r u e o = was_answered tt (opening_refusal (transcript b) (window b) b.args.call) u (sym e ∙ o)
 
-low : (b : Start) (p : ℕ) → p ≡ orient_base b.args.transcript.now.model.strand b.args.call.position → opening_refusal (transcript b) (window b) b.args.call ≡ 0 → p ≤ top
-low b p e h = rw e (base_low b.args.transcript.now.model.strand b.args.call.position (opening_within (transcript b) (window b) b.args.call b.requires.prepared.admitted h))
+low : (b : Start) (p : ℕ) → p ≡ orient_base b.args.coded.transcript.now.model.strand b.args.call.position → opening_refusal (transcript b) (window b) b.args.call ≡ 0 → p ≤ top
+low b p e h = rw e (base_low b.args.coded.transcript.now.model.strand b.args.call.position (opening_within (transcript b) (window b) b.args.call b.requires.prepared.admitted h))
 
 pub place_of_base-place-requires : goal.place_of_base-place-requires
 place_of_base-place-requires c =
@@ -46,7 +46,7 @@ pub annotate_placed-requires : goal.annotate_placed-requires
 annotate_placed-requires c =
     let b = (goal.at.annotate_placed-requires c).Start in
     let o = opened b c.judge_opening.result c.in_ok-judge_opening.field-0 (c.judge_opening.ensures (transcript b) c.requires.prepared.admitted refl) c.in_ok-judge_opening.was in
-    record { prepared = c.requires.prepared; located = c.place_of_base-place.ensures; letters = c.requires.letters; low = low b c.base_of-p.result c.base_of-p.ensures o }
+    record { prepared = c.requires.prepared; located = c.place_of_base-place.ensures; low = low b c.base_of-p.result c.base_of-p.ensures o }
 
 pub returns : goal.returns
 returns c =

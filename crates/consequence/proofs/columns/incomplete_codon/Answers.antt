@@ -2,4 +2,4 @@
 use Rattle.consequence.proofs.columns.incomplete_codon.Goals as goal
 
 pub returns : goal.returns
-returns c = λ offset number k. rw (c.with-terms.ensures, c.of-first.ensures)
+returns c = λ b. rw (c.with-terms.ensures, c.of-first.ensures)

@@ -9,15 +9,15 @@ use Rattle.consequence.proofs.columns.whole_codon.Goals as goal
 use Rattle.codon.specs.Display.{change_at}
 
 pub returns : goal.returns
-returns c = λ t offset number k hs hp.
+returns c = λ t b hs hp.
     let a = c.args in
-    let e = c.shows_codon.ensures t number hp in
-    let l = c.shown_letters.ensures t number hp in
+    let e = c.shows_codon.ensures t b.number hp in
+    let l = c.shown_letters.ensures t b.number hp in
     let h = c.of.ensures ∙ ap only (c.coding_term.ensures ∙ ap (λ (s : Bool). coding_term s a.reference_letter a.altered_letter) hs) in
     λ j. record {
-      position = Some (offset + 1);
-      number = cond (e j) (Some number) None;
-      codons = cond (e j) (Some (change_at a.c a.altered k)) None;
+      position = Some (b.offset.0 + 1);
+      number = cond (e j) (Some b.number) None;
+      codons = cond (e j) (Some (change_at a.c a.altered b.position)) None;
       letters = l j;
       terms = h j;
     }

@@ -2,4 +2,4 @@
 use Rattle.consequence.proofs.exonic.exon_result.Goals as goal
 
 pub returns : goal.returns
-returns c = λ t p h q. rw (h, q)
+returns c = λ t p i h q. rw (h, q)

@@ -13,7 +13,7 @@ use Rattle.consequence.proofs.placed.annotate_placed.Goals.{Start}
 
 -- a law about the transcript and its index, at them
 abbrev transcript : Start → Transcript
-transcript b = lent b.args.transcript.now.model b.args.transcript.now.exons.starts.now b.args.transcript.now.exons.ends.now b.args.transcript.now.segments.phases.now b.args.transcript.now.segments.exon_indexes.now b.args.transcript.now.segments.bases.starts.now b.args.transcript.now.segments.bases.ends.now b.args.transcript.now.selenocysteine.now
+transcript b = lent b.args.coded.transcript.now.model b.args.coded.transcript.now.exons.starts.now b.args.coded.transcript.now.exons.ends.now b.args.coded.transcript.now.segments.phases.now b.args.coded.transcript.now.segments.exon_indexes.now b.args.coded.transcript.now.segments.bases.starts.now b.args.coded.transcript.now.segments.bases.ends.now b.args.coded.transcript.now.selenocysteine.now
 
 pub returns-in_err-result : goal.returns-in_err-result
 returns-in_err-result c =
@@ -28,6 +28,6 @@ pub returns : goal.returns
 returns c =
     let t = transcript (goal.at.returns c).Start in
     let s = c.spill_at-spill in
-    let e : s.result ≡ spill_at (oriented t) c.args.p = s.ensures (oriented t) (let x = c.exons.ensures in rw (x.0, x.1) (on_prepared c.args.transcript.now c.args.scalars c.args.cumulative_exons.now c.args.cumulative_cds.now c.args.selenocysteine_codons.now c.requires.prepared exons_at)) (ap (λ (x : IndexScalars). x.has_frameshift_intron) c.requires.prepared.scalars_are) in
+    let e : s.result ≡ spill_at (oriented t) c.args.p = s.ensures (oriented t) (let x = c.exons.ensures in rw (x.0, x.1) (on_prepared c.args.coded.transcript.now c.args.scalars c.args.cumulative_exons.now c.args.cumulative_cds.now c.args.selenocysteine_codons.now c.requires.prepared exons_at)) (ap (λ (x : IndexScalars). x.has_frameshift_intron) c.requires.prepared.scalars_are) in
     let f = sym c.in_ok-result.was ∙ c.annotate_place.ensures in
     ap Ok c.add_splice_spill.ensures ∙ (λ k. spilled (e k) (f k))

@@ -6,9 +6,10 @@ use borrow.Author.Tests.{lt-ltb, le-ltb}
 use Rattle.transcript.specs.declared.Strand.{Strand}
 use Rattle.transcript.specs.code.Lent.{lent_exons}
 use Rattle.locate.specs.code.Search.{Ready}
+use Rattle.locate.proofs.Searching.{start_top}
 use Rattle.consequence.specs.Reading.{cds_base}
 use Rattle.consequence.specs.code.Segments.{Segments, Held}
-use Rattle.consequence.proofs.CodingBases.{reach, sum_le, in_segment, base_is}
+use Rattle.consequence.proofs.CodingBases.{reach, sum_le, base_is}
 use Rattle.consequence.proofs.reading.cds_base.Goals as goal
 use Rattle.consequence.proofs.reading.cds_base.Goals.{Start}
 
@@ -22,19 +23,19 @@ pub returns-then-k-pad : goal.returns-then-k-pad
 unfolding cds_base
 returns-then-k-pad c = let a = c.args in λ t h s. rw (h, lt-ltb a.k a.pad (omega arith))
 
-pub bounds-segments-i-2 : goal.bounds-segments-i-2
-bounds-segments-i-2 c = let e = c.args.segments.now.ready.even in omega arith
-
 pub bounds-sums-i : goal.bounds-sums-i
 bounds-sums-i c = let r = reach c.args.segments.now.strand c.args.segments.now.intervals.starts.now c.args.segments.now.intervals.ends.now c.args.sums.now c.args.pad c.args.segments.now.ready c.requires.segments in let h = c.requires.held.index in omega arith
 
 pub overflow_sub-d : goal.overflow_sub-d
 overflow_sub-d c = on (goal.at.overflow_sub-d c).Start sum_le (omega arith)
 
-pub nth_base-p-requires : goal.nth_base-p-requires
-nth_base-p-requires c = on (goal.at.nth_base-p-requires c).Start in_segment (omega arith)
+pub start-requires : goal.start-requires
+start-requires c = c.requires.held.index
+
+pub overflow_add-start : goal.overflow_add-start
+overflow_add-start c = let s = c.args.segments.now in let t = start_top s.strand s.intervals.starts.now s.intervals.ends.now s.ready c.args.i c.requires.held.index in let e = c.start.ensures in omega arith
 
 pub returns : goal.returns
 unfolding cds_base
 returns c =
-    λ t h s. rw (h, s, le-ltb c.args.k c.args.pad (omega arith), on (goal.at.returns c).Start base_is (omega arith), ← c.nth_base-p.ensures) c.coding_base_at.ensures
+    λ t h s. rw (h, s, le-ltb c.args.k c.args.pad (omega arith), on (goal.at.returns c).Start base_is (omega arith), ← c.start.ensures, ← c.base_of-p.ensures) c.coding_base_at.ensures

@@ -29,15 +29,16 @@ annotate_summed-requires c =
     let x = c.args.transcript.now in
     let a = is_admitted x c.of.result c.of.ensures c.in_ok-admitted.admitted c.in_ok-admitted.was in
     let s = (rw (is_lent x c.of.result c.of.ensures c.in_ok-admitted.admitted c.in_ok-admitted.was) at c.sum_up.ensures.sums) in
-    let n = c.sum_up.new in record {
+    let e = c.exons.ensures in
+    let n = c.sum_up.new in
+    rw c.of-2.ensures record {
       summed = record {
         admitted = a;
         exons_are = on x exons_summed a n.cumulative_exons s.0;
         segments_are = on x cds_summed a n.cumulative_cds s.1;
-        short_is = c.has_frameshift_intron-short.ensures ∙ ap (λ (xs : List Interval). any is_frameshift_gap (gaps xs)) (sym (on x exons_are a));
+        short_is = (rw (e.0, e.1) at c.has_frameshift_intron-short.ensures) ∙ ap (λ (xs : List Interval). any is_frameshift_gap (gaps xs)) (sym (on x exons_are a));
       };
-      letters = c.call_letters.ensures;
     }
 
 pub returns : goal.returns
-returns c = rw c.source_ranges-ranges.ensures at c.annotate_summed.ensures
+returns c = rw (c.source_ranges-ranges.ensures, c.of-2.ensures) at c.annotate_summed.ensures

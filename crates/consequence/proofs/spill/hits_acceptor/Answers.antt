@@ -18,4 +18,5 @@ returns-then-n-exons c =
 pub returns : goal.returns
 returns c =
     let n = count c.args.exons.strand c.args.exons.intervals.starts.now c.args.exons.intervals.ends.now c.args.exons.ready in let m = c.requires.n_in_bounds.0 in
-    c.acceptor_spill.ensures ∙ one_acceptor (lent_exons c.args.exons.strand c.args.exons.intervals.starts.now c.args.exons.intervals.ends.now) c.args.p c.args.n (ascends c.args.exons.strand c.args.exons.intervals.starts.now c.args.exons.intervals.ends.now c.args.exons.ready) (omega arith) c.requires.n_in_bounds.1 (omega arith) (omega arith)
+    let s = c.stranded.ensures in
+    (rw (s.0, s.1) at c.acceptor_spill.ensures) ∙ one_acceptor (lent_exons c.args.exons.strand c.args.exons.intervals.starts.now c.args.exons.intervals.ends.now) c.args.p c.args.n (ascends c.args.exons.strand c.args.exons.intervals.starts.now c.args.exons.intervals.ends.now c.args.exons.ready) (omega arith) c.requires.n_in_bounds.1 (omega arith) (omega arith)

@@ -13,4 +13,5 @@ returns-then-n-lt2 c =
 pub returns : goal.returns
 returns c =
     let n = count c.args.exons.strand c.args.exons.intervals.starts.now c.args.exons.intervals.ends.now c.args.exons.ready in let m = c.requires.n_in_bounds.0 in
-    c.donor_spill.ensures ∙ one_donor (lent_exons c.args.exons.strand c.args.exons.intervals.starts.now c.args.exons.intervals.ends.now) c.args.p c.args.n (ascends c.args.exons.strand c.args.exons.intervals.starts.now c.args.exons.intervals.ends.now c.args.exons.ready) (omega arith) c.requires.n_in_bounds.1 (omega arith)
+    let s = c.stranded.ensures in
+    (rw (s.0, s.1) at c.donor_spill.ensures) ∙ one_donor (lent_exons c.args.exons.strand c.args.exons.intervals.starts.now c.args.exons.intervals.ends.now) c.args.p c.args.n (ascends c.args.exons.strand c.args.exons.intervals.starts.now c.args.exons.intervals.ends.now c.args.exons.ready) (omega arith) c.requires.n_in_bounds.1 (omega arith)
