@@ -1,6 +1,6 @@
 -- The transcript at a place, in lent lists.
 -- Assumes nothing.
-use Prim.Native.Nat.{ℕ, zero, suc, ◌-◌, ◌≤◌, ◌<◌}
+use Prim.Native.Nat.{ℕ, zero, suc, ◌-◌, ◌≤◌}
 use mathlib.Core.Path.{◌≡◌, refl, sym, ◌∙◌, ap}
 use mathlib.Core.List.{List, [], ◌∷◌, map, append-nil}
 use native.Mathlib.Omega.{arith}
@@ -10,19 +10,22 @@ use borrow.Author.Tests.{lt-ltb, le-ltb}
 use Rattle.common.specs.Lists.{concat}
 use Rattle.common.specs.Stored.{stored}
 use Rattle.transcript.specs.Transcript.{Transcript}
-use Rattle.std.specs.Prelude.{Some, None, Ok, Err, Result, option_map, slice_get}
+use Rattle.std.specs.Prelude.{Option, Some, None, Ok, Err, Result, slice_get}
+use Rattle.std.specs.Iterator.{YieldsFirst, SkipsThenYields}
+use Rattle.std.proofs.lemmas.Option.{slice_get_within}
+use Rattle.std.proofs.lemmas.Iterator.Consumers.{YieldsList-from_first, nth_from_yields_List}
 use Rattle.deck.specs.declared.DeckRefusal.{DeckRefusal}
 use Rattle.deck.specs.declared.Table.{Table}
 use Rattle.deck.specs.Refused.{refused_at}
 use Rattle.deck.specs.declared.rows.Rows.{Rows}
+use Rattle.deck.specs.declared.transcript_rows.TranscriptRows.{TranscriptRows}
 use Rattle.deck.specs.Records.{mark_of, word}
 use Rattle.deck.specs.Walk.{walk_deck}
 use Rattle.deck.specs.Deck.{read_deck, deck_transcripts}
 use Rattle.deck.specs.code.Order.{order_of}
-use Rattle.deck.specs.code.Table.{column, number_of, rows_at, transcript_rows, transcript_in, transcript_at, table_transcripts, table_of, deck_table}
+use Rattle.deck.specs.code.Table.{column, number_of, rows_left, transcript_rows, transcript_in, table_transcripts, table_of, deck_table}
 use Rattle.deck.proofs.Accepted.{few_rows, sound_deck, table_holds}
 use Rattle.contents.specs.Contents.{placed, place_content, chosen}
-use Rattle.contents.specs.code.Places.{row_of}
 use Rattle.contents.specs.code.Columns.{Columns}
 
 -- one list put
@@ -37,29 +40,28 @@ drop_past zero (x ∷ xs) h = absurd (omega arith)
 drop_past (suc k) [] h = refl
 drop_past (suc k) (x ∷ xs) h = drop_past k xs (omega arith)
 
-mapped_at : {A : Type 0} (f : ℕ → A) (xs : List ℕ) (k : ℕ) {x : ℕ} → slice_get xs k ≡ Some x → take 1 (drop k (map f xs)) ≡ f x ∷ []
+mapped_at : {A B : Type 0} (f : A → B) (xs : List A) (k : ℕ) {x : A} → slice_get xs k ≡ Some x → take 1 (drop k (map f xs)) ≡ f x ∷ []
 mapped_at f [] k h = cc
 mapped_at f (y ∷ xs) zero {x} h = let e : y ≡ x = cc in rw e
 mapped_at f (y ∷ xs) (suc k) h = mapped_at f xs k h
 
--- an element looked up and mapped: it lies behind the end, or in the list
-behind : {A B : Type 0} (f : A → B) (xs : List A) (k : ℕ) → None ≡ option_map f (slice_get xs k) → length xs ≤ k
-behind f [] k h = omega arith
-behind f (x ∷ xs) zero h = cc
-behind f (x ∷ xs) (suc k) h = let l = behind f xs k h in omega arith
+slice_get_behind : {A : Type 0} (xs : List A) (k : ℕ) → slice_get xs k ≡ None → length xs ≤ k
+slice_get_behind [] k h = omega arith
+slice_get_behind (x ∷ xs) zero h = cc
+slice_get_behind (x ∷ xs) (suc k) h = let l = slice_get_behind xs k h in omega arith
 
-within : {A B : Type 0} (f : A → B) (xs : List A) (k : ℕ) {y : B} → Some y ≡ option_map f (slice_get xs k)
-    → (x : A) × (slice_get xs k ≡ Some x) × (y ≡ f x) × (k < length xs)
-within f [] k h = cc
-within f (x ∷ xs) zero h = (x, refl, cc, omega arith)
-within f (x ∷ xs) (suc k) h = let w = within f xs k h in (w.0, w.1, w.2, (let l = w.3 in omega arith))
+-- what the iterator over the transcripts gives for a place
+pub at_place : (t : Table) (place : ℕ) {s : TranscriptRows} (u : TranscriptRows) (r : Option Rows) → rows_left s ≡ transcript_rows t
+    → SkipsThenYields (YieldsFirst rows_left) s place r u → slice_get (transcript_rows t) place ≡ r
+at_place t place u None e h = sym (nth_from_yields_List None u place h (YieldsList-from_first (λ x. x) rows_left (transcript_rows t) e))
+at_place t place u (Some r) e h = sym (nth_from_yields_List (Some r) u place h (YieldsList-from_first (λ x. x) rows_left (transcript_rows t) e))
 
 -- no transcript stands at a place
-module _ (t : Table) (place : ℕ) (none : None ≡ row_of t place) where
+module _ (t : Table) (place : ℕ) (none : slice_get (transcript_rows t) place ≡ None) where
   past : length (table_transcripts t) ≤ place
   past =
-      let h = length-map (transcript_rows t) (transcript_at t) in
-      let b = behind (λ k. (k, rows_at t.kinds k)) (transcript_rows t) place none in
+      let h = length-map (transcript_rows t) (transcript_in t) in
+      let b = slice_get_behind (transcript_rows t) place none in
       omega arith
 
   pub none_placed : Err (refused_at 25 0) ≡ placed (table_transcripts t) place
@@ -69,18 +71,15 @@ module _ (t : Table) (place : ℕ) (none : None ≡ row_of t place) where
   none_there = ap (take 1) (drop_past place (table_transcripts t) past)
 
 -- one does, with these rows
-module _ (t : Table) (place : ℕ) {k : ℕ} {r : Rows} (one : Some (k, r) ≡ row_of t place) where
-  found : (x : ℕ) × (slice_get (transcript_rows t) place ≡ Some x) × ◌≡◌ {A = ℕ × Rows} (k, r) (x, rows_at t.kinds x) × (place < length (transcript_rows t))
-  found = within (λ k. (k, rows_at t.kinds k)) (transcript_rows t) place one
-
+module _ (t : Table) (place : ℕ) {r : Rows} (one : slice_get (transcript_rows t) place ≡ Some r) where
   pub one_placed : {n : ℕ} → n ≡ length (transcript_rows t) → Ok n ≡ placed (table_transcripts t) place
   one_placed {n} e =
-      let h = length-map (transcript_rows t) (transcript_at t) in
-      let f = found in
+      let h = length-map (transcript_rows t) (transcript_in t) in
+      let l = slice_get_within (transcript_rows t) place r one in
       rw (lt-ltb place (length (table_transcripts t)) (omega arith), h, e)
 
-  pub one_there : take 1 (drop place (table_transcripts t)) ≡ transcript_in t k r ∷ []
-  one_there = mapped_at (transcript_at t) (transcript_rows t) place found.1 ∙ ap (λ (p : ℕ × Rows). transcript_in t p.0 p.1 ∷ []) (sym found.2)
+  pub one_there : take 1 (drop place (table_transcripts t)) ≡ transcript_in t r ∷ []
+  one_there = mapped_at (transcript_in t) (transcript_rows t) place one
 
 -- a deck that is refused
 module _ (d : List ℕ) (k : ℕ) {e : DeckRefusal} (h : Err e ≡ read_deck d) where

@@ -46,43 +46,43 @@ segments_of_lem (p ∷ ps) (i ∷ is) (s ∷ ss) (e ∷ es) a b c =
     let r = segments_of_lem ps is ss es (omega arith) (omega arith) (omega arith) in
     (ap (λ (l : List ℕ). p ∷ l) r.0, ap (λ (l : List ℕ). i ∷ l) r.1, ap (λ (l : List ℕ). s ∷ l) r.2, ap (λ (l : List ℕ). e ∷ l) r.3)
 
-module _ {t : Table} (k : ℕ) (r : Rows) (c : Columns t) where
-  exon_lengths : length (part (k + 1) r.exons t.starts) ≡ length (part (k + 1) r.exons t.ends)
-  exon_lengths = part_length t.starts c.of_starts (k + 1) r.exons ∙ sym (part_length t.ends c.of_ends (k + 1) r.exons)
+module _ {t : Table} (r : Rows) (c : Columns t) where
+  exon_lengths : length (part (r.row + 1) r.exons t.starts) ≡ length (part (r.row + 1) r.exons t.ends)
+  exon_lengths = part_length t.starts c.of_starts (r.row + 1) r.exons ∙ sym (part_length t.ends c.of_ends (r.row + 1) r.exons)
 
   same_length : (l : List ℕ) → length l ≡ 4096 → length (part r.bounds r.segments t.starts) ≡ length (part r.bounds r.segments l)
   same_length l e = part_length t.starts c.of_starts r.bounds r.segments ∙ sym (part_length l e r.bounds r.segments)
 
-  even : even_lists (part (k + 1) r.exons t.starts) (part (k + 1) r.exons t.ends) (part r.bounds r.segments t.marks) (part r.bounds r.segments t.numbers)
+  even : even_lists (part (r.row + 1) r.exons t.starts) (part (r.row + 1) r.exons t.ends) (part r.bounds r.segments t.marks) (part r.bounds r.segments t.numbers)
       (part r.bounds r.segments t.starts) (part r.bounds r.segments t.ends) ≡ true
   even = rw (
-    eq-eqb (length (part (k + 1) r.exons t.starts)) (length (part (k + 1) r.exons t.ends)) exon_lengths,
+    eq-eqb (length (part (r.row + 1) r.exons t.starts)) (length (part (r.row + 1) r.exons t.ends)) exon_lengths,
     eq-eqb (length (part r.bounds r.segments t.starts)) (length (part r.bounds r.segments t.marks)) (same_length t.marks c.of_marks),
     eq-eqb (length (part r.bounds r.segments t.starts)) (length (part r.bounds r.segments t.numbers)) (same_length t.numbers c.of_numbers),
     eq-eqb (length (part r.bounds r.segments t.starts)) (length (part r.bounds r.segments t.ends)) (same_length t.ends c.of_ends),
   )
 
-module _ (t : Table) (k : ℕ) (r : Rows) (c : Columns t) where
+module _ (t : Table) (r : Rows) (c : Columns t) where
   abbrev here : Transcript
-  here = transcript_in t k r
+  here = transcript_in t r
 
-  pub exon_starts_in : part (k + 1) r.exons t.starts ≡ exon_starts here
+  pub exon_starts_in : part (r.row + 1) r.exons t.starts ≡ exon_starts here
   unfolding transcript_in
-  exon_starts_in = sym (rw (even k r c) (starts_of (part (k + 1) r.exons t.starts) (part (k + 1) r.exons t.ends) (exon_lengths k r c)))
+  exon_starts_in = sym (rw (even r c) (starts_of (part (r.row + 1) r.exons t.starts) (part (r.row + 1) r.exons t.ends) (exon_lengths r c)))
 
-  pub exon_ends_in : part (k + 1) r.exons t.ends ≡ exon_ends here
+  pub exon_ends_in : part (r.row + 1) r.exons t.ends ≡ exon_ends here
   unfolding transcript_in
-  exon_ends_in = sym (rw (even k r c) (ends_of (part (k + 1) r.exons t.starts) (part (k + 1) r.exons t.ends) (exon_lengths k r c)))
+  exon_ends_in = sym (rw (even r c) (ends_of (part (r.row + 1) r.exons t.starts) (part (r.row + 1) r.exons t.ends) (exon_lengths r c)))
 
   pub segments_in : (part r.bounds r.segments t.marks ≡ segment_phases here) × (part r.bounds r.segments t.numbers ≡ segment_exons here)
       × (part r.bounds r.segments t.starts ≡ segment_starts here) × (part r.bounds r.segments t.ends ≡ segment_ends here)
   unfolding transcript_in
   segments_in =
       let s = segments_of_lem (part r.bounds r.segments t.marks) (part r.bounds r.segments t.numbers) (part r.bounds r.segments t.starts) (part r.bounds r.segments t.ends)
-      (same_length k r c t.marks c.of_marks) (same_length k r c t.numbers c.of_numbers) (same_length k r c t.ends c.of_ends) in
+      (same_length r c t.marks c.of_marks) (same_length r c t.numbers c.of_numbers) (same_length r c t.ends c.of_ends) in
       (sym s.0, sym s.1, sym s.2, sym s.3)
 
-  pub scalars_in : scalar_words (model_in t k r) (length (part r.bounds r.segments t.starts)) (length (part r.segments r.bases t.starts)) ≡ scalars_of here
+  pub scalars_in : scalar_words (model_in t r) (length (part r.bounds r.segments t.starts)) (length (part r.segments r.bases t.starts)) ≡ scalars_of here
   unfolding transcript_in
   scalars_in =
       let n = ap length segments_in.2 ∙ length-map here.segments (λ s. s.genomic_start) in

@@ -1,32 +1,20 @@
 // The ids of a deck's transcripts.
-ghost use Rattle.std.specs.Prelude.{◌+◌, ◌≤◌, ◌<◌, ◌^◌, ◌≡◌, [], ◌∷◌, map, get_or};
+ghost use Rattle.std.specs.Prelude.{◌≤◌, ◌≡◌, map, get_or};
 ghost use Rattle.common.specs.Stored.{stored, Pushed};
 ghost use Rattle.deck.specs.code.Table.{transcript_rows};
 ghost use Rattle.contents.specs.Contents.{deck_content, deck_ids};
 
+use common::text::push;
 use deck::{DeckRefusal, Table, read_deck};
-
-// One id, where the list reaches so far. The position behind it.
-fn push_id(ids: &mut [u32], at: usize, id: u32) -> usize
-    requires { at + 1 < 2 ^ 64 }
-    ensures { Pushed ids.old at (id ∷ []) ids.new result }
-{
-    if at < ids.len() {
-        ids[at] = id;
-    }
-    at + 1
-}
 
 // The ids of the transcripts of a table.
 fn push_ids(table: &Table, ids: &mut [u32]) -> usize
     ensures { let rows = transcript_rows table.now in
-        Pushed ids.old 0 (map (λ k. get_or table.now.ids k 0) rows) ids.new result × (result ≤ 4096) }
+        Pushed ids.old 0 (map (λ r. get_or table.now.ids r.row 0) rows) ids.new result × (result ≤ 4096) }
 {
     let mut n = 0;
-    let mut k = 0;
-    while let Some(rows) = table.transcript_rows_at(k) {
-        n = push_id(ids, n, table.ids[k]);
-        k = rows.bases;
+    for rows in table.transcripts() {
+        n = push(ids, n, table.ids[rows.row]);
     }
     n
 }

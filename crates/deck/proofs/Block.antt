@@ -13,7 +13,7 @@ use Rattle.deck.specs.Records.{kind_of, mark_of, word}
 use Rattle.deck.specs.Walk.{Parts}
 use Rattle.deck.specs.code.Reached.{bounds_list}
 use Rattle.deck.specs.Deck.{cds_at, transcript_of}
-use Rattle.deck.specs.code.Table.{column, number_of, rows_at, bounds_between, model_in, transcript_in, transcript_at, table_of}
+use Rattle.deck.specs.code.Table.{column, number_of, rows_at, bounds_between, model_in, transcript_in, table_of}
 use Rattle.deck.proofs.Grown.{Kinds}
 use Rattle.deck.proofs.Runs.{rows_made}
 use Rattle.deck.proofs.KindRuns.{first_kind, first_other}
@@ -68,9 +68,10 @@ module _ (d pre : List ℕ) (p : Parts) (rest : List ℕ) (h : Kinds d p) (o : L
       let f = length-append us rest in
       ap length e4 ∙ length-append (((l1 ++ xs) ++ bs) ++ gs) (us ++ rest) ∙ omega arith
 
-  -- where its rows end
+  -- its rows
   abbrev pub rows : Rows
   rows = record {
+    row = length pre;
     exons = length pre + 1 + length xs;
     bounds = length pre + 1 + length xs + length bs;
     segments = length pre + 1 + length xs + length bs + length gs;
@@ -111,7 +112,7 @@ module _ (d pre : List ℕ) (p : Parts) (rest : List ℕ) (h : Kinds d p) (o : L
           rw (ne_eqb rows.bounds rows.exons q, at_row (l1 ++ xs) p.bounds (gs ++ (us ++ rest)) w n2 (λ i. word d i 4), at_row (l1 ++ xs) p.bounds (gs ++ (us ++ rest)) w n2 (λ i. word d i 8), e)
 
   -- the transcript itself
-  pub block_transcript : transcript_at (table_of d o) (length pre) ≡ transcript_of d p
+  pub block_transcript : transcript_in (table_of d o) (rows_at (column (kind_of d) o) (length pre)) ≡ transcript_of d p
   unfolding transcript_in model_in transcript_of
   block_transcript =
       let k = h.transcripts.0.0 in

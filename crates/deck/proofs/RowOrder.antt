@@ -5,18 +5,14 @@ use mathlib.Core.Path.{◌≡◌, refl, ap}
 use mathlib.Core.Bool.{Bool, true, false, cond, not}
 use mathlib.Core.List.{List, [], ◌∷◌}
 use native.Mathlib.Omega.{arith}
-use lib.ListN.{get_or}
+use lib.ListN.{length, get_or}
 use lib.Dec.{eqb, ltb}
 use borrow.Author.Tests.{eq-eqb, ne_eqb, lt-ltb, le-ltb, ltb-true, eqb-true}
 use Rattle.common.proofs.TestParts.{on_test, and_true}
-use Rattle.common.specs.declared.refusal.Refusal.{Refusal}
-use Rattle.transcript.specs.Transcript.{Transcript}
-use Rattle.transcript.specs.Admission.{admission_of}
-use Rattle.std.specs.Prelude.{Some, None, Ok, Err}
-use Rattle.deck.specs.declared.Table.{Table}
+use Rattle.std.specs.Prelude.{Some, None}
 use Rattle.deck.specs.declared.rows.Rows.{Rows}
 use Rattle.deck.specs.Records.{lowest}
-use Rattle.deck.specs.code.Table.{is_kind, run_end, bounds_end, rows_at, transcript_rows_at, InOrder, rows_from, transcript_in, admit_rows}
+use Rattle.deck.specs.code.Table.{is_kind, run_end, bounds_end, rows_at, transcript_rows_at, InOrder, rows_from, rows_onward}
 
 lowest_within : (f : ℕ → Bool) (n i : ℕ) → (i ≤ lowest f n i) × (lowest f n i ≤ n + i)
 unfolding lowest
@@ -47,6 +43,10 @@ row_inside kinds kind k h = ltb-true k 4096 (and_true (ltb k 4096) (eqb (get_or 
 bounds_low : (kinds : List ℕ) (i : ℕ) → i ≤ 4096 → bounds_end kinds i ≤ 4096
 bounds_low kinds i h = on_test (is_kind kinds 2 i) (λ e. (let l = row_inside kinds 2 i e in rw e (omega arith))) (λ e. rw e h)
 
+pub row_is : (kinds : List ℕ) (k : ℕ) → (rows_at kinds k).row ≡ k
+unfolding rows_at
+row_is kinds k = refl
+
 -- the rows of a transcript end behind it
 pub rows_past : (kinds : List ℕ) (k : ℕ) → k < (rows_at kinds k).bases
 unfolding rows_at
@@ -61,7 +61,7 @@ rows_past kinds k =
     omega arith
 
 -- and stand in their order, inside the table
-pub rows_in_order : (kinds : List ℕ) (k : ℕ) → k < 4096 → InOrder k (rows_at kinds k)
+pub rows_in_order : (kinds : List ℕ) (k : ℕ) → k < 4096 → InOrder (rows_at kinds k)
 unfolding rows_at
 rows_in_order kinds k l =
     let x = run_end kinds 3 (k + 1) in
@@ -79,20 +79,16 @@ rows_fuel kinds zero (suc m) k g h = rw (le-ltb k 4096 (omega arith))
 rows_fuel kinds (suc n) zero k g h = rw (le-ltb k 4096 (omega arith))
 rows_fuel kinds (suc n) (suc m) k g h =
     let p = rows_past kinds k in
-    ap (λ (l : List ℕ). cond (is_kind kinds 1 k) (k ∷ l) []) (rows_fuel kinds n m (rows_at kinds k).bases (omega arith) (omega arith))
-
--- the transcripts from row k on
-abbrev pub rows_onward : List ℕ → ℕ → List ℕ
-rows_onward kinds k = rows_from (4096 - k) kinds k
+    ap (λ (l : List Rows). cond (is_kind kinds 1 k) (rows_at kinds k ∷ l) []) (rows_fuel kinds n m (rows_at kinds k).bases (omega arith) (omega arith))
 
 module _ (kinds : List ℕ) (k : ℕ) where
-  pub rows_here : k < 4096 → get_or kinds k 0 ≡ 1 → rows_onward kinds k ≡ k ∷ rows_onward kinds (rows_at kinds k).bases
+  pub rows_here : k < 4096 → get_or kinds k 0 ≡ 1 → rows_onward kinds k ≡ rows_at kinds k ∷ rows_onward kinds (rows_at kinds k).bases
   unfolding rows_from
   rows_here l e =
       let q : 4096 - k ≡ suc (4096 - (k + 1)) = omega arith in
       let p = rows_past kinds k in
       let b = (rows_at kinds k).bases in
-      rw (q, lt-ltb k 4096 l, eq-eqb (get_or kinds k 0) 1 e) (ap (λ (r : List ℕ). k ∷ r) (rows_fuel kinds (4096 - (k + 1)) (4096 - b) b (omega arith) (omega arith)))
+      rw (q, lt-ltb k 4096 l, eq-eqb (get_or kinds k 0) 1 e) (ap (λ (r : List Rows). rows_at kinds k ∷ r) (rows_fuel kinds (4096 - (k + 1)) (4096 - b) b (omega arith) (omega arith)))
 
   pub rows_none : (k < 4096 → get_or kinds k 0 ≡ 1 → ⊥) → rows_onward kinds k ≡ []
   unfolding rows_from
@@ -107,33 +103,41 @@ module _ (kinds : List ℕ) (k : ℕ) {r : Rows} (e : Some r ≡ transcript_rows
   stands : (is_kind kinds 1 k ≡ true) × (r ≡ rows_at kinds k)
   stands = on_test (is_kind kinds 1 k) (λ h. let q = rw h at e in (h, cc)) (λ h. let q = rw h at e in cc)
 
-  pub row_low : k < 4096
+  row_low : k < 4096
   row_low = row_inside kinds 1 k stands.0
 
-  pub rows_are : r ≡ rows_at kinds k
+  rows_are : r ≡ rows_at kinds k
   rows_are = stands.1
 
-  pub rows_ordered : InOrder k r
-  rows_ordered = rw rows_are (rows_in_order kinds k row_low)
-
-  pub rows_step : rows_onward kinds k ≡ k ∷ rows_onward kinds r.bases
+  pub rows_step : rows_onward kinds k ≡ r ∷ rows_onward kinds r.bases
   rows_step = rw rows_are (rows_here kinds k row_low (eqb-true (get_or kinds k 0) 1 (and_true (ltb k 4096) (eqb (get_or kinds k 0) 1) stands.0).1))
 
 -- where it finds none
 pub rows_stop : (kinds : List ℕ) (k : ℕ) → None ≡ transcript_rows_at kinds k → rows_onward kinds k ≡ []
 rows_stop kinds k e = rows_none kinds k (λ l q. let h = rw (lt-ltb k 4096 l, eq-eqb (get_or kinds k 0) 1 q) at e in cc)
 
-module _ (order : List ℕ) (t : Table) (k : ℕ) {r : Rows} (e : Some r ≡ transcript_rows_at t.kinds k) where
-  pub admit_on : {u : Unit} (x : Transcript) → x ≡ transcript_in t k r → Ok u ≡ admission_of x
-      → admit_rows order t (rows_onward t.kinds k) ≡ admit_rows order t (rows_onward t.kinds r.bases)
-  unfolding admit_rows
-  admit_on x q a = rw (rows_step t.kinds k e, ← rows_are t.kinds k e, ← q, ← a)
+-- the first of the transcripts from a row on stands in order
+pub rows_ordered : (kinds : List ℕ) (k : ℕ) {r : Rows} {rest : List Rows} → rows_onward kinds k ≡ r ∷ rest → InOrder r
+unfolding rows_from
+rows_ordered kinds k = from (4096 - k)
+  where
+    from : (n : ℕ) {r : Rows} {rest : List Rows} → rows_from n kinds k ≡ r ∷ rest → InOrder r
+    from zero e = cc
+    from (suc n) {r} {rest} e = on_test (is_kind kinds 1 k)
+        (λ h. (let q = rw h at e in
+        let f : rows_at kinds k ≡ r = cc in
+        rw (← f) (rows_in_order kinds k (row_inside kinds 1 k h))))
+        (λ h. (let q = rw h at e in cc))
 
-  pub admit_stop : {f : Refusal} (x : Transcript) → x ≡ transcript_in t k r → Err f ≡ admission_of x
-      → Err (record { refusal = f; «record» = get_or order k 0 }) ≡ admit_rows order t (rows_onward t.kinds k)
-  unfolding admit_rows
-  admit_stop x q a = rw (rows_step t.kinds k e, ← rows_are t.kinds k e, ← q, ← a)
+pub first_low : (kinds : List ℕ) (k : ℕ) {r : Rows} {rest : List Rows} → rows_onward kinds k ≡ r ∷ rest → r.row < 4096
+first_low kinds k e = let o = rows_ordered kinds k e in let a = o.0 in let b = o.1 in let c = o.2 in let d = o.3 in let f = o.4 in omega arith
 
-pub admit_none : (order : List ℕ) (t : Table) (k : ℕ) → None ≡ transcript_rows_at t.kinds k → Ok tt ≡ admit_rows order t (rows_onward t.kinds k)
-unfolding admit_rows
-admit_none order t k n = rw (rows_stop t.kinds k n)
+-- there are no more than rows
+pub rows_few : (n : ℕ) (kinds : List ℕ) (k : ℕ) → length (rows_from n kinds k) ≤ n
+unfolding rows_from
+rows_few zero kinds k = omega arith
+rows_few (suc n) kinds k = here (is_kind kinds 1 k) (rows_from n kinds (rows_at kinds k).bases) (rows_few n kinds (rows_at kinds k).bases)
+  where
+    here : (b : Bool) (l : List Rows) → length l ≤ n → length (cond b (rows_at kinds k ∷ l) []) ≤ suc n
+    here true l h = omega arith
+    here false l h = omega arith

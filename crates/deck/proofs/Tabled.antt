@@ -9,9 +9,9 @@ use Rattle.deck.specs.Records.{kind_of}
 use Rattle.deck.specs.Walk.{Parts}
 use Rattle.deck.specs.code.Reached.{bounds_list, records_of}
 use Rattle.deck.specs.Deck.{transcript_of, admit_all}
-use Rattle.deck.specs.code.Table.{column, table_of, rows_at, transcript_at, admit_rows}
+use Rattle.deck.specs.code.Table.{column, table_of, rows_at, transcript_in, rows_onward, admit_rows}
 use Rattle.deck.proofs.Grown.{AllKinds}
-use Rattle.deck.proofs.RowOrder.{rows_onward, rows_here, rows_none}
+use Rattle.deck.proofs.RowOrder.{rows_here, rows_none}
 use Rattle.deck.proofs.KindRuns.{first_kind, row_other}
 use Rattle.deck.proofs.Block.{block_rows, block_transcript}
 use Rattle.deck.proofs.Positions.{at_row, at_first}
@@ -44,7 +44,7 @@ block_length p =
 
 -- the transcripts behind `pre`
 pub rows_transcripts : (d pre : List ℕ) (ps : List Parts) (o : List ℕ) → AllKinds d ps → o ≡ pre ++ records_of ps → length o < 4096
-    → (map (transcript_at (table_of d o)) (rows_onward (column (kind_of d) o) (length pre)) ≡ map (transcript_of d) ps)
+    → (map (transcript_in (table_of d o)) (rows_onward (column (kind_of d) o) (length pre)) ≡ map (transcript_of d) ps)
     × (admit_rows o (table_of d o) (rows_onward (column (kind_of d) o) (length pre)) ≡ admit_all d ps)
 unfolding records_of admit_rows admit_all
 rows_transcripts d pre [] o h e room =
@@ -62,7 +62,8 @@ rows_transcripts d pre (p ∷ ps) o h e room =
     let r = rows_here (column (kind_of d) o) (length pre) (omega arith) (k ∙ h.0.transcripts.0.0) in
     let w = block_rows d pre p (records_of ps) h.0 o eo room (first_transcript d ps h.1) in
     let q : (rows_at (column (kind_of d) o) (length pre)).bases ≡ length (pre ++ block) = rw w (omega arith) in
+    let f : (rows_at (column (kind_of d) o) (length pre)).row ≡ length pre = rw w in
     let t = block_transcript d pre p (records_of ps) h.0 o eo room (first_transcript d ps h.1) in
     let i = at_first pre p.transcript (p.exons ++ (bounds_list p.bounds ++ (p.segments ++ (p.selenocysteine ++ records_of ps)))) eo in
     let on = rows_transcripts d (pre ++ block) ps o h.1 after room in
-    (rw (r, t, q, on.0), rw (r, t, i, q, on.1))
+    (rw (r, t, q, on.0), rw (r, t, f, i, q, on.1))

@@ -15,7 +15,7 @@ use Rattle.deck.specs.Records.{record_count, next_of}
 use Rattle.deck.specs.Walk.{bad_link, Step, read, failed, walk_transcript, Walk, walked, stopped, add_parts, onward, transcripts_from, walk_deck, walked_as}
 use Rattle.deck.specs.code.Order.{order_of}
 use Rattle.deck.specs.Deck.{bad_length, first_bad, structure_of, parts_of, transcript_of, read_deck}
-use Rattle.deck.specs.code.Table.{table_of, is_kind, transcript_at}
+use Rattle.deck.specs.code.Table.{table_of, is_kind, transcript_in}
 use Rattle.deck.proofs.RowOrder.{rows_none}
 use Rattle.deck.proofs.Accepted.{sound_deck, accepted_transcripts}
 
@@ -72,5 +72,5 @@ accepted_first d e =
     on_test (eqb (get_or (table_of d (order_of (walk_deck d))).kinds 0 0) 1)
     (λ h. rw h)
     (λ h. absurd (sound_parts d (sound_deck d e).1 (map_empty (transcript_of d) (parts_of (walk_deck d))
-    (sym (ap (map (transcript_at (table_of d (order_of (walk_deck d))))) (rows_none (table_of d (order_of (walk_deck d))).kinds 0 (λ l k. eqb-false (get_or (table_of d (order_of (walk_deck d))).kinds 0 0) 1 h k)))
+    (sym (ap (map (transcript_in (table_of d (order_of (walk_deck d))))) (rows_none (table_of d (order_of (walk_deck d))).kinds 0 (λ l k. eqb-false (get_or (table_of d (order_of (walk_deck d))).kinds 0 0) 1 h k)))
     ∙ accepted_transcripts d e))))

@@ -15,16 +15,16 @@ fn record_at(order: &[u16], k: usize) -> u16
 }
 
 impl Table {
-    // The transcript at row k: its lists are parts of the columns.
+    // The transcript at its rows: its lists are parts of the columns.
     #[tactic(auto, unfolding(crate::specs::code::Table::transcript_in))]
-    pub fn transcript(&self, k: usize, rows: Rows) -> Transcript
-        ensures { transcript_of result ≡ transcript_in self.now k rows }
+    pub fn transcript(&self, rows: Rows) -> Transcript
+        ensures { transcript_of result ≡ transcript_in self.now rows }
     {
         Transcript {
-            model: self.model_in(k, rows),
+            model: self.model_in(rows),
             exons: Intervals {
-                starts: self.exon_starts(k, rows),
-                ends: self.exon_ends(k, rows),
+                starts: self.exon_starts(rows),
+                ends: self.exon_ends(rows),
             },
             segments: CdsSegments {
                 phases: self.segment_phases(rows),
@@ -39,18 +39,17 @@ impl Table {
     }
 
     // The first refused transcript in chain order, with its record.
+    #[tactic(auto, unfolding(crate::specs::code::Table::admit_rows))]
     pub(crate) fn admit_rows(&self, order: &[u16]) -> Result<(), DeckRefusal>
         ensures { result ≡ admit_table order.now self.now }
     {
-        let mut k = 0;
-        while let Some(rows) = self.transcript_rows_at(k) {
-            if let Err(refusal) = admit(&self.transcript(k, rows)) {
+        for rows in self.transcripts() {
+            if let Err(refusal) = admit(&self.transcript(rows)) {
                 return Err(DeckRefusal {
                     refusal,
-                    record: record_at(order, k),
+                    record: record_at(order, rows.row),
                 });
             }
-            k = rows.bases;
         }
         Ok(())
     }

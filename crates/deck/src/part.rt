@@ -16,23 +16,23 @@ fn part<T>(column: &[T; 4096], from: usize, to: usize) -> &[T]
 }
 
 // The exons' part of a column.
-fn exon_part(column: &[u64; 4096], k: usize, rows: Rows) -> &[u64]
-    ensures { IsExonPart k rows column.now result.now }
+fn exon_part(column: &[u64; 4096], rows: Rows) -> &[u64]
+    ensures { IsExonPart rows column.now result.now }
 {
-    part(column, k.saturating_add(1), rows.exons)
+    part(column, rows.row.saturating_add(1), rows.exons)
 }
 
 impl Table {
-    pub fn exon_starts(&self, k: usize, rows: Rows) -> &[u64]
-        ensures { IsExonPart k rows self.now.starts result.now }
+    pub fn exon_starts(&self, rows: Rows) -> &[u64]
+        ensures { IsExonPart rows self.now.starts result.now }
     {
-        exon_part(&self.starts, k, rows)
+        exon_part(&self.starts, rows)
     }
 
-    pub fn exon_ends(&self, k: usize, rows: Rows) -> &[u64]
-        ensures { IsExonPart k rows self.now.ends result.now }
+    pub fn exon_ends(&self, rows: Rows) -> &[u64]
+        ensures { IsExonPart rows self.now.ends result.now }
     {
-        exon_part(&self.ends, k, rows)
+        exon_part(&self.ends, rows)
     }
 
     pub fn segment_phases(&self, rows: Rows) -> &[u8]

@@ -1,12 +1,54 @@
 // A deck's records, and those at fault by themselves.
 ghost use Rattle.std.specs.Prelude.{◌+◌, ◌*◌, ◌≤◌, ◌<◌, ◌≡◌, not, length, eqb};
-ghost use Rattle.deck.specs.Records.{kind_of, mark_of, half, word, unused_not_zero, bad_record, lowest};
+ghost use Rattle.deck.specs.Records.{record_count, kind_of, mark_of, half, word, unused_not_zero, bad_record, lowest};
 
 use crate::kind::Kind;
 use common::little::{u16_at, u32_at};
 
 // The bytes of a record.
 pub(crate) const RECORD_SIZE: usize = 16;
+
+// The bytes of a deck that is neither empty nor longer than 4096 records.
+#[derive(Clone, Copy)]
+pub(crate) struct DeckBytes<'a> {
+    pub(crate) bytes: &'a [u8],
+    pub(crate) ghost size: { (16 ≤ length bytes.now) × (length bytes.now ≤ 65536) },
+}
+
+impl<'a> DeckBytes<'a> {
+    // How many records there are.
+    #[inline(always)]
+    pub(crate) fn count(self) -> usize
+        ensures { result ≡ record_count self.entry.bytes.now }
+    {
+        self.bytes.len() / RECORD_SIZE
+    }
+
+    #[inline(always)]
+    pub(crate) fn record(self, i: usize) -> DeckRecord<'a>
+        requires { i < record_count self.bytes.now }
+        ensures { (result.deck.now ≡ self.entry.bytes.now) × (result.i ≡ i) }
+    {
+        DeckRecord {
+            deck: self.bytes,
+            i,
+        }
+    }
+
+    // The lowest record that is at fault, their count where none is.
+    #[tactic(auto, using(crate::proofs::Lowest::lowest_on, crate::proofs::Lowest::lowest_here, crate::proofs::Lowest::lowest_none))]
+    pub(crate) fn first_bad(self) -> usize
+        ensures { let d = self.entry.bytes.now in result ≡ lowest (bad_record d) (record_count d) 0 }
+    {
+        let count = self.count();
+        for i in 0..count {
+            if self.record(i).is_bad() {
+                return i;
+            }
+        }
+        count
+    }
+}
 
 // Record i of a deck.
 #[derive(Clone, Copy)]
@@ -30,7 +72,7 @@ impl<'a> DeckRecord<'a> {
         self.deck[RECORD_SIZE * self.i + 1]
     }
 
-    // The two-byte number at byte k.
+    // The two-byte number at byte k. That k ≤ 14 is asked here and where k is handed on: it is one number, and a type for it is no plainer.
     pub(crate) fn u16_at(self, k: usize) -> u16
         requires { k ≤ 14 }
         ensures { result ≡ half self.entry.deck.now self.entry.i k }
@@ -87,18 +129,4 @@ impl<'a> DeckRecord<'a> {
     {
         (self.kind() == u8::from(Kind::Head)) != (self.i == 0) || self.unused_not_zero()
     }
-}
-
-// The lowest of the first n records that is at fault, n where none is.
-#[tactic(auto, using(crate::proofs::Lowest::lowest_on, crate::proofs::Lowest::lowest_here, crate::proofs::Lowest::lowest_none))]
-pub(crate) fn first_bad(d: &[u8], n: usize) -> usize
-    requires { 16 * n ≤ length d.now }
-    ensures { result ≡ lowest (bad_record d.now) n 0 }
-{
-    for i in 0..n {
-        if (DeckRecord { deck: d, i }).is_bad() {
-            return i;
-        }
-    }
-    n
 }

@@ -9,9 +9,10 @@ use crate::Table;
 use crate::kind::Kind;
 use transcript::{CdsBounds, Exon, Strand, TranscriptModel};
 
-// Where the exons of a transcript, its bounds, its segments and its selenocysteine bases end.
+// The row of a transcript, and where its exons, its bounds, its segments and its selenocysteine bases end.
 #[derive(Clone, Copy)]
 pub struct Rows {
+    pub row: usize,
     pub exons: usize,
     pub bounds: usize,
     pub segments: usize,
@@ -82,11 +83,13 @@ impl Table {
     pub fn rows_at(&self, k: usize) -> Rows
         ensures { result ≡ rows_at self.now.kinds (min k 4096) }
     {
-        let exons = self.run_end(Kind::Exon, k.min(4096) + 1);
+        let row = k.min(4096);
+        let exons = self.run_end(Kind::Exon, row + 1);
         let bounds = self.bounds_end(exons);
         let segments = self.run_end(Kind::Segment, bounds);
         let bases = self.run_end(Kind::Selenocysteine, segments);
         Rows {
+            row,
             exons,
             bounds,
             segments,
@@ -98,38 +101,31 @@ impl Table {
     pub fn transcript_rows_at(&self, k: usize) -> Option<Rows>
         ensures { result ≡ transcript_rows_at self.now.kinds k }
     {
-        if k < 4096 && self.kinds[k] == u8::from(Kind::Transcript) {
-            Some(self.rows_at(k))
-        } else {
-            None
-        }
+        (k < 4096 && self.kinds[k] == u8::from(Kind::Transcript)).then(|| self.rows_at(k))
     }
 
     // The bounds behind the exons, if any stand there.
     fn bounds_in(&self, rows: Rows) -> Option<CdsBounds>
         ensures { result ≡ bounds_between self.now.starts self.now.ends rows.exons rows.bounds }
     {
-        if rows.bounds == rows.exons {
-            return None;
-        }
-        Some(CdsBounds {
+        (rows.bounds != rows.exons).then_some(CdsBounds {
             cds_genomic_start: self.starts.get(rows.exons).copied().unwrap_or(0),
             cds_genomic_end: self.ends.get(rows.exons).copied().unwrap_or(0),
         })
     }
 
-    // The scalars of the transcript at row k.
+    // The scalars of the transcript at its rows.
     #[tactic(auto, unfolding(crate::specs::code::Table::model_in))]
-    pub fn model_in(&self, k: usize, rows: Rows) -> TranscriptModel
-        ensures { result ≡ model_in self.now k rows }
+    pub fn model_in(&self, rows: Rows) -> TranscriptModel
+        ensures { result ≡ model_in self.now rows }
     {
-        let mark = self.marks.get(k).copied().unwrap_or(0);
+        let mark = self.marks.get(rows.row).copied().unwrap_or(0);
         let strand = strand_of(mark);
-        let exon_starts = self.exon_starts(k, rows);
-        let edges = tx_bounds(exon_starts, self.exon_ends(k, rows), strand);
+        let exon_starts = self.exon_starts(rows);
+        let edges = tx_bounds(exon_starts, self.exon_ends(rows), strand);
         TranscriptModel {
-            id: self.ids.get(k).copied().unwrap_or(0),
-            chromosome: self.numbers.get(k).copied().unwrap_or(0),
+            id: self.ids.get(rows.row).copied().unwrap_or(0),
+            chromosome: self.numbers.get(rows.row).copied().unwrap_or(0),
             strand,
             exon_count: exon_starts.len() as u16,
             tx_start: edges.genomic_start,

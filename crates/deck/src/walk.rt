@@ -1,5 +1,6 @@
 // The walk over the deck's links. The first bad link ends it.
-ghost use Rattle.std.specs.Prelude.{◌≤◌, ◌<◌, ◌≡◌, ◌≢◌, ◌||◌, false, length, IfOk, IsTrue, MatchResult};
+// Links are followed by `while`: which record comes next stands in the one just reached, and a bad link ends the walk.
+ghost use Rattle.std.specs.Prelude.{◌≤◌, ◌<◌, ◌≡◌, ◌≢◌, ◌||◌, false, IfOk, IsTrue, MatchResult};
 ghost use Rattle.deck.specs.Records.{record_count, next_of, lowest};
 ghost use Rattle.deck.specs.Refused.{link_refusal};
 ghost use Rattle.deck.specs.Walk.{walk_deck, walked_as};
@@ -8,8 +9,8 @@ ghost use Rattle.deck.specs.code.Trail.{first_trail, with_record, is_bad, is_unr
 
 use crate::DeckRefusal;
 use crate::kind::Kind;
-use crate::links::{Link, bounds_after, exon_link, link_of, next_link};
-use crate::record::{DeckRecord, RECORD_SIZE};
+use crate::links::{Link, bounds_after};
+use crate::record::DeckBytes;
 use common::refusal::Refusal;
 
 // The records reached so far: a mark for each, and besides the head their order and how many they are.
@@ -48,28 +49,22 @@ impl Trail {
     }
 
     // A link outside the deck, to a wrong kind, or to a record already reached.
-    fn is_bad(&self, d: &[u8], link: Link) -> bool
-        requires { length d.now ≤ 65536 }
-        ensures { result ≡ is_bad d.now link self.now }
+    fn is_bad(&self, d: DeckBytes, link: Link) -> bool
+        ensures { result ≡ is_bad d.entry.bytes.now link self.now }
     {
-        if d.len() / RECORD_SIZE <= link.to {
+        if d.count() <= link.to {
             return true;
         }
-        let target = DeckRecord {
-            deck: d,
-            i: link.to,
-        };
-        target.kind() != u8::from(link.kind) || self.marks[link.to]
+        d.record(link.to).kind() != u8::from(link.kind) || self.marks[link.to]
     }
 
     // The record that a link leads to is reached, unless the link is bad.
-    fn follow(&mut self, d: &[u8], link: Link) -> Result<(), DeckRefusal>
-        requires size { length d.now ≤ 65536 }
-        requires holder { link.from < record_count d.now }
-        requires room { is_bad d.now link self.old ≡ false → self.old.count < 4096 }
-        ensures { MatchResult result
-            (λ u. (is_bad d.now link self.old ≡ false) × (self.new ≡ with_record self.old link.to))
-            (λ e. IsTrue (is_bad d.now link self.old) × (e ≡ link_refusal link.from)) }
+    fn follow(&mut self, d: DeckBytes, link: Link) -> Result<(), DeckRefusal>
+        requires holder { link.from < record_count d.bytes.now }
+        requires room { is_bad d.bytes.now link self.old ≡ false → self.old.count < 4096 }
+        ensures { let bad = is_bad d.entry.bytes.now link self.old in MatchResult result
+            (λ u. (bad ≡ false) × (self.new ≡ with_record self.old link.to))
+            (λ e. IsTrue bad × (e ≡ link_refusal link.from)) }
     {
         if self.is_bad(d, link) {
             return Err(link_refusal(link.from));
@@ -81,12 +76,11 @@ impl Trail {
     }
 
     // The records of transcript t, to which record `from` links: its exons, bounds, segments, selenocysteine bases.
-    fn walk_transcript(&mut self, d: &[u8], from: usize, t: usize) -> Result<(), DeckRefusal>
-        requires size { length d.now ≤ 65536 }
+    fn walk_transcript(&mut self, d: DeckBytes, from: usize, t: usize) -> Result<(), DeckRefusal>
         requires linked { t ≢ 0 }
-        requires before { Before d.now self.old from t }
-        ensures { MatchResult result
-            (λ u. Before d.now self.new t (next_of d.now t) × (left d.now self.new < left d.now self.old)) (λ e. Stops d.now e) }
+        requires before { Before d.bytes.now self.old from t }
+        ensures { let bytes = d.entry.bytes.now in MatchResult result
+            (λ u. Before bytes self.new t (next_of bytes t) × (left bytes self.new < left bytes self.old)) (λ e. Stops bytes e) }
     {
         self.follow(
             d,
@@ -97,27 +91,27 @@ impl Trail {
             },
         )?;
         let mut b = 0;
-        let mut link = exon_link(d, t, t, link_of(d, t, 10));
+        let mut link = d.exon_link(t, t, d.link(t, 10));
         while link.to != 0 {
             self.follow(d, link)?;
             let reached = link;
-            link = next_link(d, t, b, reached.kind, reached.to);
+            link = d.next_link(t, b, reached.kind, reached.to);
             b = bounds_after(b, reached.kind, reached.to);
         }
         Ok(())
     }
 
     // The transcripts one behind the other, from the head on.
-    fn walk_transcripts(&mut self, d: &[u8]) -> Result<(), DeckRefusal>
-        requires { (16 ≤ length d.now) × (length d.now ≤ 65536) × (self.old ≡ first_trail) }
-        ensures { MatchResult result (λ u. Through d.now self.new) (λ e. Stops d.now e) }
+    fn walk_transcripts(&mut self, d: DeckBytes) -> Result<(), DeckRefusal>
+        requires { self.old ≡ first_trail }
+        ensures { let bytes = d.entry.bytes.now in MatchResult result (λ u. Through bytes self.new) (λ e. Stops bytes e) }
     {
         let mut from = 0;
-        let mut t = link_of(d, 0, 2);
+        let mut t = d.link(0, 2);
         while t != 0 {
             self.walk_transcript(d, from, t)?;
             from = t;
-            t = link_of(d, t, 2);
+            t = d.link(t, 2);
         }
         Ok(())
     }
@@ -137,13 +131,13 @@ impl Trail {
     }
 
     // Every record reached from the head, in order. The first bad link ends the whole walk; else a record never reached is bad.
-    pub(crate) fn walk(&mut self, d: &[u8]) -> Result<usize, DeckRefusal>
-        requires { (16 ≤ length d.now) × (length d.now ≤ 65536) × (self.old ≡ first_trail) }
-        ensures value { result ≡ walked_as d.now (walk_deck d.now) }
-        ensures order_after { IfOk result (λ n. IsOrder d.now n self.new.order) }
+    pub(crate) fn walk(&mut self, d: DeckBytes) -> Result<usize, DeckRefusal>
+        requires { self.old ≡ first_trail }
+        ensures value { let bytes = d.entry.bytes.now in result ≡ walked_as bytes (walk_deck bytes) }
+        ensures order_after { IfOk result (λ n. IsOrder d.entry.bytes.now n self.new.order) }
     {
         self.walk_transcripts(d)?;
-        let count = d.len() / RECORD_SIZE;
+        let count = d.count();
         let low = self.first_unreached(count);
         if low < count {
             return Err(link_refusal(low));

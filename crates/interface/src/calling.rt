@@ -6,7 +6,7 @@ ghost use Rattle.answers.specs.Calls.{CallAnswered, CallsAnswered};
 
 use crate::given::{number_of, transcript_of, window_of};
 use answers::{answer_call, answer_calls};
-use words::{VareffectCall, VareffectModel, VareffectWindow, call_of};
+use words::{CallLists, VareffectCall, VareffectModel, VareffectWindow, call_of};
 
 // The answer to a call as 20 numbers, or the number of the refusal.
 pub fn vareffect_call(
@@ -75,10 +75,12 @@ pub fn vareffect_calls(
     );
     let answer = answer_calls(
         &window_of(window, bases),
-        chromosomes,
-        positions,
-        refs,
-        alts,
+        &CallLists {
+            chromosomes,
+            positions,
+            refs,
+            alts,
+        },
         &transcript,
         out,
     );

@@ -5,7 +5,7 @@ ghost use Rattle.deck.specs.Deck.{read_deck};
 ghost use Rattle.contents.specs.Contents.{deck_content, deck_ids, place_content, chosen, Stored};
 ghost use Rattle.interface.specs.Decks.{deck_outcome, uncounted};
 
-use contents::{deck_ids, deck_transcript};
+use contents::{TranscriptLists, deck_ids, deck_transcript};
 use deck::{DeckRefusal, check_deck};
 use words::VareffectOutcome;
 
@@ -58,9 +58,7 @@ pub fn vareffect_deck_transcript(
     ensures lists_after { let t = chosen bytes.now place in
         Stored t scalars exon_starts exon_ends seg_phases seg_exons seg_starts seg_ends selenocysteine }
 {
-    deck_outcome(deck_transcript(
-        bytes,
-        place,
+    let lists = TranscriptLists {
         scalars,
         exon_starts,
         exon_ends,
@@ -69,5 +67,6 @@ pub fn vareffect_deck_transcript(
         seg_starts,
         seg_ends,
         selenocysteine,
-    ))
+    };
+    deck_outcome(deck_transcript(bytes, place, lists))
 }

@@ -57,8 +57,5 @@ pub(crate) fn window_of<'a>(window: VareffectWindow, bases: &'a [u8]) -> Window<
 pub(crate) fn number_of(answer: Result<(), Refusal>) -> u8
     ensures { result ≡ outcome_number answer }
 {
-    match answer {
-        Ok(()) => 0,
-        Err(refusal) => u8::from(refusal),
-    }
+    answer.err().map_or(0, u8::from)
 }

@@ -6,18 +6,13 @@ ghost use Rattle.interface.specs.List.{piece_at, moved_to, moved, Listed};
 use answers::outcome_of;
 use common::refusal::Refusal;
 use listing::{Cursor, Piece};
-use pieces::list_piece;
+use pieces::{ListingFiles, list_piece};
 use words::VareffectOutcome;
 
 // The piece from the cursor on. Behind the end there is none.
-fn piece_at(
-    deck: &[u8],
-    window: &[u8],
-    calls: &[u8],
-    cursor: &[usize; 3],
-    out: &mut [u8],
-) -> Result<Piece, Refusal>
-    ensures { let p = piece_at deck.now window.now calls.now cursor.now out.old in
+fn piece_at(files: ListingFiles, cursor: &[usize; 3], out: &mut [u8]) -> Result<Piece, Refusal>
+    ensures { let f = files.entry in
+        let p = piece_at f.deck.now f.window.now f.calls.now cursor.now out.old in
         (result ≡ piece_of p) × (out.new ≡ piece_to out.old p) }
 {
     if cursor[2] != 0 {
@@ -30,7 +25,7 @@ fn piece_at(
         at: cursor[0],
         entry: cursor[1],
     };
-    list_piece(deck, window, calls, from, out)
+    list_piece(files, from, out)
 }
 
 fn move_to(cursor: &mut [usize; 3], next: Option<Cursor>)
@@ -66,7 +61,12 @@ pub fn vareffect_list(
         deck.now window.now calls.now
         cursor.old out.old cursor.new out.new result }
 {
-    let piece = piece_at(deck, window, calls, cursor, out);
+    let files = ListingFiles {
+        deck,
+        window,
+        calls,
+    };
+    let piece = piece_at(files, cursor, out);
     move_on(cursor, piece);
     outcome_of(piece.map(|piece| piece.length))
 }

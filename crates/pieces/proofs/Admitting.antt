@@ -14,8 +14,9 @@ use Rattle.deck.specs.declared.DeckRefusal.{DeckRefusal}
 use Rattle.deck.specs.Walk.{walk_deck}
 use Rattle.deck.specs.Deck.{admitted_then, read_deck, deck_transcripts}
 use Rattle.deck.specs.code.Order.{order_of}
+use Rattle.deck.specs.declared.rows.Rows.{Rows}
 use Rattle.deck.specs.declared.Table.{Table}
-use Rattle.deck.specs.code.Table.{table_of, transcript_at, transcript_rows, table_transcripts, admit_rows, table_by, deck_table}
+use Rattle.deck.specs.code.Table.{table_of, transcript_in, transcript_rows, table_transcripts, admit_rows, table_by, deck_table}
 use Rattle.deck.proofs.Accepted.{sound_deck, sound_admission, table_holds}
 use Rattle.listing.specs.WindowFile.{bad_window_file, bad_call_file}
 use Rattle.listing.specs.Listing.{opening_by, opening}
@@ -24,14 +25,14 @@ use Rattle.pieces.specs.code.TableIndex.{Admits, AllAdmitted}
 use Rattle.pieces.specs.code.Opening.{index_by, opened}
 use Rattle.pieces.proofs.FilesJudged.{right_files}
 
-admits_rows : (records : List ℕ) (t : Table) (ks : List ℕ) → admit_rows records t ks ≡ Ok tt → Admits t ks
+admits_rows : (records : List ℕ) (t : Table) (rs : List Rows) → admit_rows records t rs ≡ Ok tt → Admits t rs
 unfolding admit_rows
 admits_rows records t [] e = tt
-admits_rows records t (k ∷ ks) e = here (admission_of (transcript_at t k)) refl e (admits_rows records t ks)
+admits_rows records t (r ∷ rs) e = here (admission_of (transcript_in t r)) refl e (admits_rows records t rs)
   where
-    here : (a : Result (Unit {0}) Refusal) → admission_of (transcript_at t k) ≡ a → admitted_then a (get_or records k 0) (admit_rows records t ks) ≡ Ok tt
-        → (admit_rows records t ks ≡ Ok tt → Admits t ks) → Admits t (k ∷ ks)
-    here (Ok u) q h on = (admitted_is (transcript_at t k) (admission_of (transcript_at t k)) refl u q, on h)
+    here : (a : Result (Unit {0}) Refusal) → admission_of (transcript_in t r) ≡ a → admitted_then a (get_or records r.row 0) (admit_rows records t rs) ≡ Ok tt
+        → (admit_rows records t rs ≡ Ok tt → Admits t rs) → Admits t (r ∷ rs)
+    here (Ok u) q h on = (admitted_is (transcript_in t r) (admission_of (transcript_in t r)) refl u q, on h)
     here (Err n) q h on = cc
 
 pub all_admitted : (d : List ℕ) → read_deck d ≡ Ok tt → AllAdmitted (deck_table d)

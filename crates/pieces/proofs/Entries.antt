@@ -2,7 +2,6 @@
 -- Assumes nothing.
 use Prim.Native.Nat.{ℕ, zero, suc, ◌+◌, ◌-◌, ◌≤◌, ◌<◌}
 use mathlib.Core.Path.{◌≡◌, refl, ◌∙◌, ap, subst}
-use mathlib.Core.Bool.{false}
 use mathlib.Core.List.{List, [], ◌∷◌, ◌++◌, map}
 use native.Mathlib.Omega.{arith}
 use native.Mathlib.Numerals.{add-one}
@@ -12,10 +11,9 @@ use Rattle.transcript.specs.Transcript.{Transcript}
 use Rattle.consequence.specs.declared.Call.{Call}
 use Rattle.consequence.specs.Called.{Called}
 use Rattle.consequence.specs.Window.{Window}
-use Rattle.consequence.specs.code.Prepared.{Summed}
 use Rattle.deck.specs.declared.rows.Rows.{Rows}
 use Rattle.deck.specs.declared.Table.{Table}
-use Rattle.deck.specs.code.Table.{InOrder, model_in, transcript_in, transcript_at, transcript_rows, table_transcripts}
+use Rattle.deck.specs.code.Table.{model_in, transcript_in, transcript_rows, table_transcripts}
 use Rattle.std.specs.Prelude.{Some, Result, Ok, Err}
 use Rattle.common.specs.declared.refusal.Refusal.{Refusal}
 use Rattle.lines.specs.Line.{called_line, write_answer, written_to}
@@ -24,19 +22,18 @@ use Rattle.listing.specs.declared.Piece.{Piece}
 use Rattle.listing.specs.Entries.{Entry, entry_line, listed_call, call_entry, call_entries}
 use Rattle.listing.specs.Pieces.{Step, call_steps, Packed, pack, piece_to}
 use Rattle.pieces.specs.declared.TableIndex.{TableIndex}
-use Rattle.pieces.specs.code.TableIndex.{AllAdmitted, table_index, cds_row}
+use Rattle.pieces.specs.code.TableIndex.{AllAdmitted, table_index, rows_of, no_entry, entry_at, rows_in}
 use Rattle.pieces.specs.code.Filling.{filled_as}
-use Rattle.pieces.specs.code.TableIndex.{rows_in}
 use Rattle.pieces.proofs.IndexTable.{IndexedAt}
 use Rattle.pieces.proofs.WholeIndex.{table_indexed}
 use Rattle.pieces.proofs.IndexedRows.{index_count, index_few, index_rows_lem}
 use Rattle.pieces.proofs.Filling.{Filling, line_put, line_left, filling_more, filling_stop}
 
-mapped_on : {A : Type 0} (f : Transcript → A) (g : ℕ → Transcript) (ks : List ℕ) (i : ℕ) → i < length ks
-    → drop i (map f (map g ks)) ≡ f (g (get_or ks i 0)) ∷ drop (suc i) (map f (map g ks))
-mapped_on f g [] i h = absurd (omega arith)
-mapped_on f g (k ∷ ks) zero h = refl
-mapped_on f g (k ∷ ks) (suc i) h = mapped_on f g ks i (omega arith)
+mapped_on : {A : Type 0} (f : Transcript → A) (g : Rows → Transcript) (rs : List Rows) (d : Rows) (i : ℕ) → i < length rs
+    → drop i (map f (map g rs)) ≡ f (g (get_or rs i d)) ∷ drop (suc i) (map f (map g rs))
+mapped_on f g [] d i h = absurd (omega arith)
+mapped_on f g (r ∷ rs) d zero h = refl
+mapped_on f g (r ∷ rs) d (suc i) h = mapped_on f g rs d i (omega arith)
 
 module _ (t : Table) (x : TableIndex) (e : x ≡ table_index t) where
   pub count_low : x.count ≤ 4096
@@ -44,30 +41,26 @@ module _ (t : Table) (x : TableIndex) (e : x ≡ table_index t) where
 
   -- one of the transcripts
   module _ (a : AllAdmitted t) (i : ℕ) (l : i < x.count) where
-    abbrev k : ℕ
-    k = get_or x.rows i 0
+    abbrev r : Rows
+    r = rows_in x i
 
-    at : IndexedAt t k (rows_in x i) (get_or x.short i false) x.sums
-    at = (rw (← e) at (table_indexed t a)) i l
+    pub ready : IndexedAt t (entry_at x i) x.sums
+    ready = (rw (← e) at (table_indexed t a)) i l
 
-    pub row_below : k < 4096
-    row_below = let o = at.order in let b = o.0 in let c = o.1 in let d = o.2 in let f = o.3 in let g = o.4 in omega arith
+    pub row_below : r.row < 4096
+    row_below = let o = ready.order in let b = o.0 in let c = o.1 in let d = o.2 in let f = o.3 in let g = o.4 in omega arith
 
-    module _ {r : Rows} (q : r ≡ rows_in x i) where
-      pub ready : InOrder k r × Summed (transcript_in t k r) (drop k x.sums) (drop (cds_row k r) x.sums) (get_or x.short i false)
-      ready = rw q (at.order, at.summed)
-
-      pub entry_line_lem : (w : Window) (number : ℕ) (c : Call) {called : Called} → called ≡ listed_call (transcript_in t k r) w c
-          → called_line number (get_or t.ids k 0) called ≡ entry_line (call_entry w number c (transcript_at t k))
-      unfolding transcript_in model_in
-      entry_line_lem w number c h = rw (h, q ∙ at.rows_are)
+    pub entry_line_lem : (w : Window) (number : ℕ) (c : Call) {called : Called} → called ≡ listed_call (transcript_in t r) w c
+        → called_line number (get_or t.ids r.row 0) called ≡ entry_line (call_entry w number c (transcript_in t r))
+    unfolding transcript_in model_in
+    entry_line_lem w number c h = rw h
 
   module _ (w : Window) (number : ℕ) (q : Call) (at : ℕ) where
     abbrev es : List Entry
     es = call_entries (table_transcripts t) w number (Some q)
 
     abbrev line : ℕ → List ℕ
-    line i = entry_line (call_entry w number q (transcript_at t (get_or x.rows i 0)))
+    line i = entry_line (call_entry w number q (transcript_in t (rows_in x i)))
 
     abbrev cursor : ℕ → Cursor
     cursor i = record { at = at; entry = i }
@@ -76,14 +69,14 @@ module _ (t : Table) (x : TableIndex) (e : x ≡ table_index t) where
     steps_on i l =
         let c = ap (λ (y : TableIndex). y.count) e in
         let n = index_count t in
-        let r : get_or x.rows i 0 ≡ get_or (transcript_rows t) i 0 = ap (λ (y : TableIndex). get_or y.rows i 0) e ∙ index_rows_lem t i (omega arith) in
-        rw (mapped_on (call_entry w number q) (transcript_at t) (transcript_rows t) i (omega arith), r, add-one)
+        let r : rows_in x i ≡ get_or (transcript_rows t) i (rows_of no_entry) = ap (λ (y : TableIndex). rows_in y i) e ∙ index_rows_lem t i (omega arith) in
+        rw (mapped_on (call_entry w number q) (transcript_in t) (transcript_rows t) (rows_of no_entry) i (omega arith), r, add-one)
 
     pub steps_end : (i : ℕ) → x.count ≤ i → call_steps at i (drop i es) ≡ []
     steps_end i l =
         let c = ap (λ (y : TableIndex). y.count) e in
         let n = index_count t in
-        let a = length-map (transcript_rows t) (transcript_at t) in
+        let a = length-map (transcript_rows t) (transcript_in t) in
         let b = length-map (table_transcripts t) (call_entry w number q) in
         rw (drop_of_length-le es {i = i} (omega arith))
 

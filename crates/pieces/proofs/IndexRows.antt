@@ -35,9 +35,9 @@ either : {A : Type 0} (x y : A) (a b : Bool) → b ≡ not a → cond b x y ≡ 
 either x y true b e = rw e
 either x y false b e = rw e
 
-module _ (t : Table) (k : ℕ) (r : Rows) (h : admission (transcript_in t k r) ≡ 0) where
+module _ (t : Table) (r : Rows) (h : admission (transcript_in t r) ≡ 0) where
   abbrev o : Oriented
-  o = oriented (transcript_in t k r)
+  o = oriented (transcript_in t r)
 
   abbrev segs : List ℕ
   segs = part r.bounds r.segments t.starts
@@ -45,25 +45,25 @@ module _ (t : Table) (k : ℕ) (r : Rows) (h : admission (transcript_in t k r) �
   -- a law about the transcript's parts, at them
   abbrev at : {P : TranscriptModel → List ℕ → List ℕ → List ℕ → List ℕ → List ℕ → List ℕ → List ℕ → Type 0}
       → ((m : TranscriptModel) (ss es ps is gs ge bs : List ℕ) → P m ss es ps is gs ge bs)
-      → P (model_in t k r) (part (k + 1) r.exons t.starts) (part (k + 1) r.exons t.ends) (part r.bounds r.segments t.marks) (part r.bounds r.segments t.numbers) segs (part r.bounds r.segments t.ends) (part r.segments r.bases t.starts)
-  at f = f (model_in t k r) (part (k + 1) r.exons t.starts) (part (k + 1) r.exons t.ends) (part r.bounds r.segments t.marks) (part r.bounds r.segments t.numbers) segs (part r.bounds r.segments t.ends) (part r.segments r.bases t.starts)
+      → P (model_in t r) (part (r.row + 1) r.exons t.starts) (part (r.row + 1) r.exons t.ends) (part r.bounds r.segments t.marks) (part r.bounds r.segments t.numbers) segs (part r.bounds r.segments t.ends) (part r.segments r.bases t.starts)
+  at f = f (model_in t r) (part (r.row + 1) r.exons t.starts) (part (r.row + 1) r.exons t.ends) (part r.bounds r.segments t.marks) (part r.bounds r.segments t.numbers) segs (part r.bounds r.segments t.ends) (part r.segments r.bases t.starts)
 
   -- a CDS stands behind bounds only
   coding_rows : o.coding ≡ not (eqb r.bounds r.exons)
   unfolding transcript_in model_in
   coding_rows = sym (at known h).bounds ∙ bounds_are _ (eqb r.bounds r.exons)
 
-  pub cds_row_is : cond o.coding r.exons k ≡ cds_row k r
-  cds_row_is = either r.exons k (eqb r.bounds r.exons) o.coding coding_rows
+  pub cds_row_is : cond o.coding r.exons r.row ≡ cds_row r
+  cds_row_is = either r.exons r.row (eqb r.bounds r.exons) o.coding coding_rows
 
   segment_rows : (ltb 0 (length segs) ≡ o.coding) × (length o.segments ≡ length segs)
   unfolding transcript_in
   segment_rows = (at coding_is h, at segment_count h)
 
-  module _ (i : InOrder k r) where
-    pub exons_end : k + length o.exons < r.exons
+  module _ (i : InOrder r) where
+    pub exons_end : r.row + length o.exons < r.exons
     unfolding transcript_in
-    exons_end = let a = i.0 in let n = at count h in let p = part_le (k + 1) r.exons t.starts in omega arith
+    exons_end = let a = i.0 in let n = at count h in let p = part_le (r.row + 1) r.exons t.starts in omega arith
 
     pub segments_end : o.coding ≡ true → r.exons + length o.segments < r.bases
     segments_end e =
@@ -74,28 +74,28 @@ module _ (t : Table) (k : ℕ) (r : Rows) (h : admission (transcript_in t k r) �
         omega arith
 
     -- the sums that are read
-    pub cds_end_lem : cds_row k r + length o.segments < r.bases
+    pub cds_end_lem : cds_row r + length o.segments < r.bases
     cds_end_lem =
         let a = i.0 in let b = i.1 in let c = i.2 in let d = i.3 in
-        rw (← cds_row_is) (on_test o.coding (λ e. rw e (segments_end e)) (λ e. (let n = (no_cds (transcript_in t k r) e).0 in rw e (omega arith))))
+        rw (← cds_row_is) (on_test o.coding (λ e. rw e (segments_end e)) (λ e. (let n = (no_cds (transcript_in t r) e).0 in rw e (omega arith))))
 
 -- room for the sums of a transcript that is lent
-module _ (t : Table) (k : ℕ) (r : Rows) (i : InOrder k r) (u : Lent) (e : transcript_of u ≡ transcript_in t k r) (h : admission (transcript_in t k r) ≡ 0) where
+module _ (t : Table) (r : Rows) (i : InOrder r) (u : Lent) (e : transcript_of u ≡ transcript_in t r) (h : admission (transcript_in t r) ≡ 0) where
   admitted : admission (transcript_of u) ≡ 0
   admitted = rw e h
 
-  pub exons_fit : k + length u.exons.starts.now < r.exons
+  pub exons_fit : r.row + length u.exons.starts.now < r.exons
   exons_fit =
       let n = on u count admitted in
-      let l : length (oriented (transcript_of u)).exons ≡ length (oriented (transcript_in t k r)).exons = rw e in
-      let x = exons_end t k r h i in
+      let l : length (oriented (transcript_of u)).exons ≡ length (oriented (transcript_in t r)).exons = rw e in
+      let x = exons_end t r h i in
       omega arith
 
   pub segments_fit : 0 < length u.segments.bases.starts.now → r.exons + length u.segments.bases.starts.now < r.bases
   segments_fit l =
       let n = on u segment_count admitted in
       let c = on u coding_is admitted in
-      let same : length (oriented (transcript_of u)).segments ≡ length (oriented (transcript_in t k r)).segments = rw e in
-      let coding : (oriented (transcript_of u)).coding ≡ (oriented (transcript_in t k r)).coding = rw e in
-      let x = segments_end t k r h i (sym coding ∙ sym c ∙ lt-ltb 0 (length u.segments.bases.starts.now) l) in
+      let same : length (oriented (transcript_of u)).segments ≡ length (oriented (transcript_in t r)).segments = rw e in
+      let coding : (oriented (transcript_of u)).coding ≡ (oriented (transcript_in t r)).coding = rw e in
+      let x = segments_end t r h i (sym coding ∙ sym c ∙ lt-ltb 0 (length u.segments.bases.starts.now) l) in
       omega arith

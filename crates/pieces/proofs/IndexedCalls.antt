@@ -11,8 +11,8 @@ use Rattle.deck.specs.code.Table.{InOrder}
 use Rattle.pieces.specs.code.TableIndex.{cds_row}
 
 -- the sums of the CDS begin inside the table
-pub row_low : (k : ℕ) (r : Rows) → InOrder k r → cds_row k r < 4096
-row_low k r h =
+pub row_low : (r : Rows) → InOrder r → cds_row r < 4096
+row_low r h =
     let a = h.0 in let b = h.1 in let c = h.2 in let d = h.3 in let f = h.4 in
     on_test (eqb r.bounds r.exons) (λ e. rw e (omega arith)) (λ e. rw e (inside r.bounds r.exons (omega arith) (omega arith) (eqb-false r.bounds r.exons e)))
   where

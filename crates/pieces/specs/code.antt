@@ -1,3 +1,4 @@
 pub mod TableIndex
 pub mod Opening
+pub mod Files
 pub mod Filling

@@ -4,20 +4,20 @@ ghost use Rattle.consequence.specs.Window.{window_of};
 ghost use Rattle.listing.specs.Entries.{listed_call};
 ghost use Rattle.consequence.specs.code.Prepared.{Summed};
 ghost use Rattle.deck.specs.code.Table.{InOrder, transcript_in};
-ghost use Rattle.pieces.specs.code.TableIndex.{cds_row};
+ghost use Rattle.pieces.specs.code.TableIndex.{cds_row, rows_of};
 
-use codon::AllLetters;
-use consequence::{Call, Called, Window, annotate_summed, call_letters};
-use deck::Table;
+use crate::IndexEntry;
+use crate::opened::Sources;
+use consequence::{Call, Called, CodedTranscript, annotate_summed};
 use deck::rows::Rows;
 use footprint::source_ranges;
 
 // Where the sums of the CDS begin.
-fn cds_row(k: usize, rows: Rows) -> usize
-    ensures { result ≡ cds_row k rows }
+fn cds_row(rows: Rows) -> usize
+    ensures { result ≡ cds_row rows }
 {
     if rows.bounds == rows.exons {
-        k
+        rows.row
     } else {
         rows.exons
     }
@@ -32,33 +32,26 @@ fn sums_from(sums: &[u32; 4096], row: usize) -> &[u32]
     &all[row..]
 }
 
-// The answer to a call on the admitted transcript at row k.
-pub(crate) fn call_indexed(
-    both: &AllLetters,
-    window: &Window,
-    call: Call,
-    table: &Table,
-    sums: &[u32; 4096],
-    k: usize,
-    rows: Rows,
-    short: bool,
-) -> Called
-    requires in_order { InOrder k rows }
-    requires summed { let t = transcript_in table.now k rows in
-        Summed t (drop k sums.now) (drop (cds_row k rows) sums.now) short }
-    ensures { let t = transcript_in table.now k rows in
-        let w = window_of window.now in
+// The answer to a call on an admitted transcript of the index.
+pub(crate) fn call_indexed(sources: Sources, call: Call, entry: IndexEntry) -> Called
+    requires in_order { InOrder (rows_of entry) }
+    requires summed { let r = rows_of entry in
+        let sums = sources.deck.index.now.sums in
+        Summed (transcript_in sources.deck.table.now r) (drop r.row sums) (drop (cds_row r) sums) entry.short }
+    ensures { let t = transcript_in sources.entry.deck.table.now (rows_of entry) in
+        let w = window_of sources.entry.window.now in
         result ≡ listed_call t w call }
 {
-    let transcript = table.transcript(k, rows);
+    let rows = entry.rows();
+    let transcript = sources.deck.table.transcript(rows);
+    let sums = &sources.deck.index.sums;
     annotate_summed(
         source_ranges(),
-        call_letters(both, transcript.model.chromosome),
-        window,
+        CodedTranscript::of(sources.both, &transcript),
+        sources.window,
         call,
-        &transcript,
-        sums_from(sums, k),
-        sums_from(sums, cds_row(k, rows)),
-        short,
+        sums_from(sums, rows.row),
+        sums_from(sums, cds_row(rows)),
+        entry.short,
     )
 }

@@ -6,7 +6,8 @@ ghost use Rattle.listing.specs.WindowFile.{window_of as file_window};
 ghost use Rattle.listing.specs.Pieces.{steps_at, pack, piece_to};
 ghost use Rattle.pieces.specs.code.Filling.{filled_as};
 
-use crate::opened::OpenedDeck;
+use crate::ListingFiles;
+use crate::opened::{OpenedDeck, Sources};
 use crate::parsed::fill_parsed;
 use codon::altered_letters;
 use common::little::{u16_at, u64_at};
@@ -36,21 +37,26 @@ fn window_in(window: &[u8]) -> Window
 }
 
 // The lines of the calls from the cursor on. The letters of both genetic codes are laid out here, once for a piece.
-// No for: it begins at the cursor and ends with the cursor of the line that does not fit.
+// No `for`: the position moves by each line's length, and the cursor of the line that does not fit has that position.
 pub(crate) fn fill_lines(
-    window: &[u8],
-    calls: &[u8],
+    files: ListingFiles,
     deck: OpenedDeck,
     cursor: Cursor,
     out: &mut [u8],
 ) -> Piece
-    requires { length calls.now ≤ 65536 }
+    requires { length files.calls.now ≤ 65536 }
     ensures { let ts = table_transcripts deck.entry.table.now in
-        let p = pack (length out.old) (steps_at ts (file_window window.now) calls.now cursor) in
+        let p = pack (length out.old) (steps_at ts (file_window files.entry.window.now) files.entry.calls.now cursor) in
         (result ≡ filled_as p) × (out.new ≡ piece_to out.old p) }
 {
     let both = altered_letters();
-    let bases = window_in(window);
+    let calls = files.calls;
+    let window = window_in(files.window);
+    let sources = Sources {
+        deck,
+        window: &window,
+        both: &both,
+    };
     let mut at = cursor.at;
     let mut entry = cursor.entry;
     let mut number = line_number(calls, at);
@@ -58,9 +64,7 @@ pub(crate) fn fill_lines(
     while at < calls.len() {
         let to = line_end(calls, at);
         let put = fill_parsed(
-            &both,
-            &bases,
-            deck,
+            sources,
             parse_call(&calls[at..to]),
             number,
             Cursor { at, entry },

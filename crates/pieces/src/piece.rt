@@ -2,14 +2,15 @@
 ghost use Rattle.std.specs.Prelude.{◌≡◌, [], ◌∷◌, length};
 ghost use Rattle.common.specs.Refusal.{number};
 ghost use Rattle.lines.specs.Line.{refusal_line};
-ghost use Rattle.listing.specs.Pieces.{pack, packed, piece_by, piece_of, piece_to};
-ghost use Rattle.pieces.specs.code.Opening.{opened, opened_as};
+ghost use Rattle.listing.specs.Pieces.{pack, piece_by, piece_of, piece_to};
+ghost use Rattle.pieces.specs.code.Opening.{opened_as};
+ghost use Rattle.pieces.specs.code.Files.{opened_files, packed_files};
 ghost use Rattle.pieces.specs.code.Filling.{filled_as};
 
-use crate::TableIndex;
 use crate::fill::line_filled;
 use crate::line::fill_lines;
 use crate::opened::OpenedDeck;
+use crate::{ListingFiles, TableIndex};
 use common::refusal::Refusal;
 use deck::{DeckRefusal, Table};
 use lines::line::write_refusal;
@@ -42,21 +43,19 @@ fn fill_refusal(refused: DeckRefusal, cursor: Cursor, out: &mut [u8]) -> Piece
 
 // The piece of an opened listing from a cursor on.
 pub fn next_piece(
-    deck: &[u8],
-    window: &[u8],
-    calls: &[u8],
+    files: ListingFiles,
     opening: Result<(), DeckRefusal>,
     table: &Table,
     index: &TableIndex,
     cursor: Cursor,
     out: &mut [u8],
 ) -> Result<Piece, Refusal>
-    requires { opened_as opening table.now index.now ≡ opened deck.now window.now calls.now }
-    ensures { let p = packed deck.now window.now calls.now cursor out.old in
+    requires { opened_as opening table.now index.now ≡ opened_files files }
+    ensures { let p = packed_files files.entry cursor out.old in
         (result ≡ piece_of p) × (out.new ≡ piece_to out.old p) }
 {
     match opening {
         Err(refused) => piece_of(fill_refusal(refused, cursor, out)),
-        Ok(()) => piece_of(fill_lines(window, calls, OpenedDeck { table, index }, cursor, out)),
+        Ok(()) => piece_of(fill_lines(files, OpenedDeck { table, index }, cursor, out)),
     }
 }

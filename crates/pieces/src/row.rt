@@ -9,6 +9,7 @@ use deck::Table;
 use deck::rows::Rows;
 use footprint::has_frameshift_intron;
 use locate::store_sums;
+use transcript::Stranded;
 use transcript::admission::Admitted;
 use transcript::order::pad_of;
 
@@ -21,7 +22,7 @@ fn index_transcript(sums: &mut [u32], row: usize, cds_row: usize, admitted: Admi
         (result ≡ is_short t) × (sums.new ≡ row_sums t row cds_row sums.old) }
 {
     let transcript = admitted.transcript;
-    let short = has_frameshift_intron(transcript.exons, transcript.model.strand);
+    let short = has_frameshift_intron(Stranded::exons(transcript));
     store_sums(sums, row, transcript.exons, 0);
     let segments = transcript.segments;
     if segments.bases.starts.len() != 0 {
@@ -35,17 +36,17 @@ fn index_transcript(sums: &mut [u32], row: usize, cds_row: usize, admitted: Admi
     short
 }
 
-// The same of the transcript at a row of the table.
-pub(crate) fn index_row(table: &Table, row: usize, rows: Rows, sums: &mut [u32]) -> bool
-    requires in_order { InOrder row rows }
-    requires admitted { admission (transcript_in table.now row rows) ≡ 0 }
+// The same of a transcript of the table.
+pub(crate) fn index_row(table: &Table, rows: Rows, sums: &mut [u32]) -> bool
+    requires in_order { InOrder rows }
+    requires admitted { admission (transcript_in table.now rows) ≡ 0 }
     requires sums_len { length sums.old ≡ 4096 }
-    ensures { let t = transcript_in table.now row rows in
-        (result ≡ is_short t) × (sums.new ≡ row_sums t row rows.exons sums.old) }
+    ensures { let t = transcript_in table.now rows in
+        (result ≡ is_short t) × (sums.new ≡ row_sums t rows.row rows.exons sums.old) }
 {
-    let transcript = table.transcript(row, rows);
+    let transcript = table.transcript(rows);
     let admitted = Admitted {
         transcript: &transcript,
     };
-    index_transcript(sums, row, rows.exons, admitted)
+    index_transcript(sums, rows.row, rows.exons, admitted)
 }

@@ -9,22 +9,23 @@ use Rattle.transcript.specs.Bases.{size, gaps}
 use Rattle.transcript.specs.Admission.{admission}
 use Rattle.footprint.specs.ShortIntron.{is_frameshift_gap}
 use Rattle.locate.specs.Index.{cumulative}
+use Rattle.pieces.specs.declared.IndexEntry.{IndexEntry}
 use Rattle.pieces.specs.declared.TableIndex.{TableIndex}
 use Rattle.deck.specs.declared.rows.Rows.{Rows}
 use Rattle.deck.specs.declared.Table.{Table}
-use Rattle.deck.specs.code.Table.{rows_at, transcript_at, transcript_rows}
+use Rattle.deck.specs.code.Table.{transcript_in, transcript_rows}
 
--- the transcripts at these rows are admitted
-abbrev pub Admits : Table → List ℕ → Type 0
+-- these transcripts are admitted
+abbrev pub Admits : Table → List Rows → Type 0
 Admits t [] = Unit {0}
-Admits t (k ∷ ks) = (admission (transcript_at t k) ≡ 0) × Admits t ks
+Admits t (r ∷ rs) = (admission (transcript_in t r) ≡ 0) × Admits t rs
 
 abbrev pub AllAdmitted : Table → Type 0
 AllAdmitted t = Admits t (transcript_rows t)
 
-Admits-prop : (t : Table) (ks : List ℕ) → IsProp (Admits t ks)
+Admits-prop : (t : Table) (rs : List Rows) → IsProp (Admits t rs)
 Admits-prop t [] = Unit-prop
-Admits-prop t (k ∷ ks) = ×_prop (Coded-set coded_ℕ (admission (transcript_at t k)) 0) (Admits-prop t ks)
+Admits-prop t (r ∷ rs) = ×_prop (Coded-set coded_ℕ (admission (transcript_in t r)) 0) (Admits-prop t rs)
 
 -- a struct that holds this fact is its other fields alone
 pub AllAdmitted-prop : (t : Table) → IsProp (AllAdmitted t)
@@ -46,47 +47,43 @@ with_cds o c sums = cond o.coding (stored sums c (cumulative o.pad (map size o.s
 abbrev pub row_sums : Transcript → ℕ → ℕ → List ℕ → List ℕ
 row_sums t k c sums = with_cds (oriented t) c (with_exons (oriented t) k sums)
 
--- the index with transcript j, which stands at row k; its bounds, if it has them, stand behind its exons
-unfoldable pub index_row : Table → ℕ → ℕ → TableIndex → TableIndex
-index_row t j k x =
-    let r = rows_at t.kinds k in
-    record {
-      count = suc j;
-      rows = set x.rows j k;
-      short = set x.short j (is_short (transcript_at t k));
-      exons = set x.exons j r.exons;
-      bounds = set x.bounds j r.bounds;
-      segments = set x.segments j r.segments;
-      bases = set x.bases j r.bases;
-      sums = row_sums (transcript_at t k) k r.exons x.sums;
-    }
+-- a transcript as an entry, and its rows again
+abbrev pub entry_of : Rows → Bool → IndexEntry
+entry_of r short = record { row = r.row; exons = r.exons; bounds = r.bounds; segments = r.segments; bases = r.bases; short = short }
 
--- with the transcripts at these rows, of which the first is transcript j
-abbrev pub index_rows : Table → ℕ → List ℕ → TableIndex → TableIndex
+abbrev pub rows_of : IndexEntry → Rows
+rows_of e = record { row = e.row; exons = e.exons; bounds = e.bounds; segments = e.segments; bases = e.bases }
+
+-- behind the last
+abbrev pub no_entry : IndexEntry
+no_entry = record { row = 0; exons = 0; bounds = 0; segments = 0; bases = 0; short = false }
+
+-- the index with transcript j; its bounds, if it has them, stand behind its exons
+unfoldable pub index_row : Table → ℕ → Rows → TableIndex → TableIndex
+index_row t j r x =
+    let u = transcript_in t r in
+    record { count = suc j; entries = set x.entries j (entry_of r (is_short u)); sums = row_sums u r.row r.exons x.sums }
+
+-- with these transcripts, of which the first is transcript j
+abbrev pub index_rows : Table → ℕ → List Rows → TableIndex → TableIndex
 index_rows t j [] x = x
-index_rows t j (k ∷ ks) x = index_rows t (suc j) ks (index_row t j k x)
+index_rows t j (r ∷ rs) x = index_rows t (suc j) rs (index_row t j r x)
 
 -- before the first of them
 unfoldable pub empty_index : TableIndex
-empty_index = record {
-  count = 0;
-  rows = replicate 4096 0;
-  short = replicate 4096 false;
-  exons = replicate 4096 0;
-  bounds = replicate 4096 0;
-  segments = replicate 4096 0;
-  bases = replicate 4096 0;
-  sums = replicate 4096 0;
-}
+empty_index = record { count = 0; entries = replicate 4096 no_entry; sums = replicate 4096 0 }
 
--- the rows of the transcript at place k
+-- the entry of the transcript at place k, and its rows
+abbrev pub entry_at : TableIndex → ℕ → IndexEntry
+entry_at x k = get_or x.entries k no_entry
+
 abbrev pub rows_in : TableIndex → ℕ → Rows
-rows_in x k = record { exons = get_or x.exons k 0; bounds = get_or x.bounds k 0; segments = get_or x.segments k 0; bases = get_or x.bases k 0 }
+rows_in x k = rows_of (entry_at x k)
 
 -- the index of a table
 abbrev pub table_index : Table → TableIndex
 table_index t = index_rows t 0 (transcript_rows t) empty_index
 
 -- where the sums of the CDS are read: at the row of its bounds; where there is none, at the transcript's row, whose sum is 0
-abbrev pub cds_row : ℕ → Rows → ℕ
-cds_row k r = cond (eqb r.bounds r.exons) k r.exons
+abbrev pub cds_row : Rows → ℕ
+cds_row r = cond (eqb r.bounds r.exons) r.row r.exons

@@ -1,4 +1,4 @@
-use Prim.Native.Nat.{ℕ, ◌-◌}
+use Prim.Native.Nat.{ℕ}
 use mathlib.Core.List.{List}
 use lib.ListN.{length, drop}
 use Rattle.consequence.specs.declared.Call.{Call}
@@ -16,7 +16,4 @@ abbrev pub steps : Table → Window → ℕ → Call → ℕ → ℕ → List St
 steps t w number q at k = call_steps at k (drop k (call_entries (table_transcripts t) w number (Some q)))
 
 abbrev pub invariant-loop-entry : goal.invariant-loop-entry
-invariant-loop-entry l = Filling l.initial.out l.out l.filled (steps l.deck.table.now (window_of l.window) l.number l.call l.at l.entry) (pack (length l.initial.out) (steps l.deck.table.now (window_of l.window) l.number l.call l.at l.initial.entry))
-
-abbrev pub decreases-loop-entry : goal.decreases-loop-entry
-decreases-loop-entry l = l.deck.index.now.count - l.entry
+invariant-loop-entry l = Filling l.initial.out l.out l.filled (steps l.sources.deck.table.now (window_of l.sources.window.now) l.number l.call l.at l.entry) (pack (length l.initial.out) (steps l.sources.deck.table.now (window_of l.sources.window.now) l.number l.call l.at l.fn.cursor.entry))

@@ -31,13 +31,15 @@ store_sums-requires-then-segments-ne0 c =
 pub returns-else-segments-ne0 : goal.returns-else-segments-ne0
 returns-else-segments-ne0 c =
     let f = c.has_frameshift_intron-short in
+    let x = c.exons.ensures in
     let s = c.store_sums in
-    on c.args.admitted.transcript.now row_alone c.args.admitted.admitted c.args.row c.args.cds_row c.args.sums.now f.result s.new.sums f.ensures s.ensures (omega arith)
+    on c.args.admitted.transcript.now row_alone c.args.admitted.admitted c.args.row c.args.cds_row c.args.sums.now f.result s.new.sums (rw (x.0, x.1) at f.ensures) s.ensures (omega arith)
 
 pub returns-then-segments-ne0 : goal.returns-then-segments-ne0
 returns-then-segments-ne0 c =
     let f = c.has_frameshift_intron-short in
+    let x = c.exons.ensures in
     let s = c.store_sums in
     let p = c.from in
     let t = c.store_sums-then-segments-ne0 in
-    on c.args.admitted.transcript.now row_coding c.args.admitted.admitted c.args.row c.args.cds_row c.args.sums.now f.result s.new.sums f.ensures s.ensures p.result t.new.sums (p.ensures ∙ c.pad_of.ensures) t.ensures (omega arith)
+    on c.args.admitted.transcript.now row_coding c.args.admitted.admitted c.args.row c.args.cds_row c.args.sums.now f.result s.new.sums (rw (x.0, x.1) at f.ensures) s.ensures p.result t.new.sums (p.ensures ∙ c.pad_of.ensures) t.ensures (omega arith)
