@@ -4,7 +4,7 @@
 // codons, and the codons with one base replaced, that have another letter, and how many there are.
 #![tactic(auto)]
 
-ghost use Rattle.std.specs.Prelude.{◌<◌, ◌≤◌};
+ghost use Rattle.std.specs.Prelude.{◌<◌, ◌≤◌, length};
 
 use codon::{Codon, GeneticCode, build_alt_codon, translate_altered_codon, translate_codon};
 use console::{print, print_decimal, read_full};
@@ -12,67 +12,55 @@ use std::io::Read;
 
 const BASES: [u8; 4] = *b"ACGT";
 
-// The codon of row i.
-fn codon_at(rows: &[u8; 384], i: usize) -> Codon
-    requires { i < 64 }
-{
-    let at = i * 6;
-    let first = rows[at];
-    let second = rows[at + 1];
-    let third = rows[at + 2];
+// A row: three bases, a space, the letter and a newline.
+type Row = [u8; 6];
+
+fn codon_of(row: &Row) -> Codon {
     Codon {
         len: 3,
-        first,
-        second,
-        third,
+        first: row[0],
+        second: row[1],
+        third: row[2],
     }
 }
 
 // The letter published for a codon, `?` where no row has it.
-fn published_letter(rows: &[u8; 384], c: Codon) -> u8 {
-    for i in 0..64 {
-        if codon_at(rows, i) == c {
-            return rows[i * 6 + 4];
-        }
-    }
-    b'?'
+fn published_letter(rows: &[Row], c: Codon) -> u8 {
+    rows.iter()
+        .find(|row| codon_of(row) == c)
+        .map_or(b'?', |row| row[4])
 }
 
-// 1 where the codon of row i has another letter, which is then written, else 0.
-fn codon_differs(rt: &impl Print, rows: &[u8; 384], code: GeneticCode, i: usize) -> u64
-    requires { i < 64 }
-    ensures { result ≤ 1 }
-{
-    let c = codon_at(rows, i);
+// Whether the codon of a row has another letter, which is then written.
+fn codon_differs(rt: &impl Print, row: &Row, code: GeneticCode) -> bool {
+    let c = codon_of(row);
     let letter = translate_codon(code, c);
-    let published = rows[i * 6 + 4];
+    let published = row[4];
     if letter == published {
-        return 0;
+        return false;
     }
     let line = [
         c.first, c.second, c.third, b' ', published, b' ', letter, b'\n',
     ];
     print(rt, &line);
-    1
+    true
 }
 
-// 1 where the codon of row i with a base put in at a place has another letter, which is then written, else 0.
+// Whether a codon with a base put in at a place has another letter, which is then written.
 fn altered_differs(
     rt: &impl Print,
-    rows: &[u8; 384],
+    rows: &[Row],
     code: GeneticCode,
-    i: usize,
+    c: Codon,
     place: u8,
     base: u8,
-) -> u64
-    requires { (i < 64) × (place < 3) }
-    ensures { result ≤ 1 }
+) -> bool
+    requires { place < 3 }
 {
-    let c = codon_at(rows, i);
     let letter = translate_altered_codon(code, c, place, base);
     let published = published_letter(rows, build_alt_codon(c, place, base));
     if letter == published {
-        return 0;
+        return false;
     }
     let line = [
         c.first,
@@ -89,29 +77,28 @@ fn altered_differs(
         b'\n',
     ];
     print(rt, &line);
-    1
+    true
 }
 
-// How many codons of the first n rows have another letter.
-fn codon_differences(rt: &impl Print, rows: &[u8; 384], code: GeneticCode, n: usize) -> u64
-    requires { n ≤ 64 }
-{
+// How many codons have another letter.
+fn codon_differences(rt: &impl Print, rows: &[Row], code: GeneticCode) -> u64 {
     let mut count: u64 = 0;
-    for i in 0..n {
-        count += codon_differs(rt, rows, code, i);
+    for row in rows {
+        count += u64::from(codon_differs(rt, row, code));
     }
     count
 }
 
-// How many of their codons with one base replaced, 12 for each, have another letter.
-fn altered_differences(rt: &impl Print, rows: &[u8; 384], code: GeneticCode, n: usize) -> u64
-    requires { n ≤ 64 }
+// How many codons of the first n rows, with one base replaced, 12 for each, have another letter.
+fn altered_differences(rt: &impl Print, rows: &[Row], n: usize, code: GeneticCode) -> u64
+    requires { (n ≤ length rows.now) × (length rows.now ≤ 64) }
 {
     let mut count: u64 = 0;
-    for i in 0..n {
+    for row in &rows[..n] {
         for place in 0..3 {
             for base in BASES {
-                count += altered_differs(rt, rows, code, i, place, base);
+                let differs = altered_differs(rt, rows, code, codon_of(row), place, base);
+                count += u64::from(differs);
             }
         }
     }
@@ -128,13 +115,14 @@ fn write_count(rt: &impl Print, table: u64, n: usize, what: &[u8], differ: u64) 
     print(rt, b" differ\n");
 }
 
-// A code against the next 64 rows, those of the table of that number.
+// A code against the next 64 rows, those of the table of that number. Whole rows are counted; letters are sought in all 64.
 fn check_table(rt: &impl Print, input: &mut impl Read, table: u64, code: GeneticCode) {
-    let mut rows = [0u8; 384];
-    let n = read_full(input, &mut rows) / 6;
-    let codons = codon_differences(rt, &rows, code, n);
+    let mut bytes = [0u8; 384];
+    let n = read_full(input, &mut bytes) / 6;
+    let (rows, _) = bytes.as_chunks::<6>();
+    let codons = codon_differences(rt, &rows[..n], code);
     write_count(rt, table, n, b" codons, ", codons);
-    let altered = altered_differences(rt, &rows, code, n);
+    let altered = altered_differences(rt, rows, n, code);
     write_count(rt, table, n * 12, b" altered codons, ", altered);
 }
 

@@ -4,7 +4,7 @@ use crate::transcripts::{PLUS, minus};
 use footprint::{SpliceSpill, exonic_splice_spill, frameshift_intron_endpoint};
 use transcript::Transcript;
 
-// The line's first words: what is asked, the strand and the interval.
+// The line's first words: what is asked, the strand and the interval. Transcript, start and end are what footprint is asked with.
 fn asked(rt: &impl Print, question: &[u8], x: &Transcript, start: u64, end: u64) {
     print(rt, question);
     strand_word(rt, x.model.strand);

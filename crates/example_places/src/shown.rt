@@ -2,6 +2,7 @@
 use crate::text::{number, print, refused, signed};
 use common::refusal::Refusal;
 use footprint::Flank;
+use lines::place_name;
 use locate::VariantLocation;
 
 // A name with a count.
@@ -17,25 +18,6 @@ fn coding_base(rt: &impl Print, offset: u32, codon: u32, position: u8, is_splice
     number(rt, position as u64);
     if is_splice_region {
         print(rt, b" mark");
-    }
-}
-
-// The names as this example prints them.
-fn name_of(place: VariantLocation) -> &'static [u8] {
-    match place {
-        VariantLocation::Upstream { .. } => b"Upstream",
-        VariantLocation::Downstream { .. } => b"Downstream",
-        VariantLocation::Distal => b"Distal",
-        VariantLocation::FivePrimeUtr { .. } => b"FivePrimeUtr",
-        VariantLocation::CdsExon { .. } => b"CdsExon",
-        VariantLocation::ThreePrimeUtr { .. } => b"ThreePrimeUtr",
-        VariantLocation::SpliceDonor { .. } => b"SpliceDonor",
-        VariantLocation::SpliceAcceptor { .. } => b"SpliceAcceptor",
-        VariantLocation::SpliceRegion { .. } => b"SpliceRegion",
-        VariantLocation::Intron { .. } => b"Intron",
-        VariantLocation::FrameshiftIntron { .. } => b"FrameshiftIntron",
-        VariantLocation::NonCodingExon { .. } => b"NonCodingExon",
-        VariantLocation::NonCodingIntron { .. } => b"NonCodingIntron",
     }
 }
 
@@ -65,7 +47,7 @@ fn show_signed(rt: &impl Print, place: VariantLocation) {
 
 // The place's name with what document 01 says of it.
 pub(crate) fn show_place(rt: &impl Print, place: VariantLocation) {
-    print(rt, name_of(place));
+    print(rt, place_name(place));
     match place {
         VariantLocation::Upstream { distance } => number(rt, distance),
         VariantLocation::Downstream { distance } => number(rt, distance),

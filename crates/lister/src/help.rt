@@ -1,5 +1,5 @@
 // What `--help` prints.
-use crate::write::write_all;
+use crate::write::Output;
 
 // Whether a word asks for help.
 pub(crate) fn is_help(word: &[u8]) -> bool {
@@ -7,11 +7,8 @@ pub(crate) fn is_help(word: &[u8]) -> bool {
 }
 
 // What it reads and prints.
-fn print_usage(to: &impl Print, errors: &impl Print, name: &[u8]) -> bool {
-    write_all(
-        to,
-        errors,
-        name,
+fn print_usage<T: Print, E: Print>(to: &Output<T, E>) -> bool {
+    to.write_all(
         b"\
 lister: where single-base calls fall in transcripts, and what follows from them\n\
 \n\
@@ -35,11 +32,8 @@ taken as empty, and a failed write ends the run; standard error says why.\n",
 }
 
 // Numbers that end the run.
-fn print_deck(to: &impl Print, errors: &impl Print, name: &[u8]) -> bool {
-    write_all(
-        to,
-        errors,
-        name,
+fn print_deck<T: Print, E: Print>(to: &Output<T, E>) -> bool {
+    to.write_all(
         b"\
 \n\
 A deck is refused by\n\
@@ -64,11 +58,8 @@ A deck is refused by\n\
 }
 
 // Numbers of single calls and of the two other files.
-fn print_calls(to: &impl Print, errors: &impl Print, name: &[u8]) -> bool {
-    write_all(
-        to,
-        errors,
-        name,
+fn print_calls<T: Print, E: Print>(to: &Output<T, E>) -> bool {
+    to.write_all(
         b"\
 \n\
 A call is refused by\n\
@@ -86,8 +77,6 @@ A call is refused by\n\
 }
 
 // Prints all of it. After a write that failed nothing more is written.
-pub(crate) fn print(to: &impl Print, errors: &impl Print, name: &[u8]) {
-    let _ = print_usage(to, errors, name)
-        && print_deck(to, errors, name)
-        && print_calls(to, errors, name);
+pub(crate) fn print<T: Print, E: Print>(to: &Output<T, E>) {
+    let _ = print_usage(to) && print_deck(to) && print_calls(to);
 }

@@ -25,23 +25,34 @@ fn say_none_taken(errors: &impl Print, name: &[u8]) {
     print(errors, b": no byte was taken\n");
 }
 
-// Writes the bytes. Answers whether all are written: a write that fails or takes none is the last, and is said under the name.
-pub(crate) fn write_all(to: &impl Print, errors: &impl Print, name: &[u8], bytes: &[u8]) -> bool {
-    let mut done = 0;
-    while done < bytes.len() {
-        match write_at(to, bytes, done) {
-            Err(e) => {
-                say_failed(errors, name, e);
-                return false;
-            }
-            Ok(n) => {
-                if n == 0 {
-                    say_none_taken(errors, name);
+// Where bytes are written, under which name, and where what fails is said.
+#[derive(Drop)]
+pub(crate) struct Output<'a, T: Print, E: Print> {
+    pub to: &'a T,
+    pub errors: &'a E,
+    pub name: &'a [u8],
+}
+
+impl<'a, T: Print, E: Print> Output<'a, T, E> {
+    // Writes the bytes. Answers whether all are written: a write that fails or takes none is the last, and is said under the name. Like
+    // `read_to_end` in shape alone.
+    pub(crate) fn write_all(&self, bytes: &[u8]) -> bool {
+        let mut done = 0;
+        while done < bytes.len() {
+            match write_at(self.to, bytes, done) {
+                Err(e) => {
+                    say_failed(self.errors, self.name, e);
                     return false;
                 }
-                done += n;
+                Ok(n) => {
+                    if n == 0 {
+                        say_none_taken(self.errors, self.name);
+                        return false;
+                    }
+                    done += n;
+                }
             }
         }
+        true
     }
-    true
 }

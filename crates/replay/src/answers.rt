@@ -3,45 +3,45 @@ ghost use Rattle.std.specs.Prelude.{ℕ, ◌≤◌, ◌<◌, length};
 
 use crate::counts::{Counts, Kind, report};
 use crate::layout::{Answers, answers_of};
-use crate::numbers::{byte_at, u16_at, u32_at};
+use crate::numbers::{byte_at, from, u16_at, u32_at};
 use crate::transcripts::head_of;
 use crate::{asking, calling, index, placing};
 use transcript::{CdsSegments, Intervals, Transcript};
 
-// Whether the answer at p is the port's.
-fn is_same(b: &[u8], p: usize, a: Answers, transcript: &Transcript) -> bool
-    requires { (p ≤ 700000) × (a.at ≤ 12000) }
-{
-    let at = a.at;
-    match a.kind {
-        Kind::Transcripts => index::is_same(b, at, transcript),
-        Kind::Places => placing::is_same(b, p, transcript),
-        Kind::Intervals => asking::is_same(b, p, transcript),
-        Kind::Calls => calling::is_same(b, p, at, transcript),
+// Whether an answer is the port's. The window of a call stands behind the transcript.
+fn is_same(answer: &[u8], kind: Kind, behind: &[u8], transcript: &Transcript) -> bool {
+    match kind {
+        Kind::Transcripts => index::is_same(answer, transcript),
+        Kind::Places => placing::is_same(answer, transcript),
+        Kind::Intervals => asking::is_same(answer, transcript),
+        Kind::Calls => calling::is_same(answer, behind, transcript),
     }
 }
 
-// 1 where the answer at p differs, which is then written, else 0.
-fn differs(rt: &impl Print, b: &[u8], p: usize, a: Answers, transcript: &Transcript) -> u64
-    requires { (p ≤ 700000) × (a.at ≤ 12000) }
-    ensures { result ≤ 1 }
-{
-    if is_same(b, p, a, transcript) {
-        return 0;
+// Whether the answer at p differs, which is then written.
+fn differs(rt: &impl Print, b: &[u8], p: usize, a: Answers, transcript: &Transcript) -> bool {
+    let answer = from(b, p);
+    if is_same(answer, a.kind, from(b, a.at), transcript) {
+        return false;
     }
-    report(rt, b"different", a.kind, transcript.model.id, u32_at(b, p));
-    1
+    report(
+        rt,
+        b"different",
+        a.kind,
+        transcript.model.id,
+        u32_at(answer, 0),
+    );
+    true
 }
 
-// All answers of the block.
+// All answers of the block. No `step_by` or `chunks`: the step to the next is 0 for an index.
 fn judge_answers(rt: &impl Print, b: &[u8], a: Answers, transcript: &Transcript) -> Counts
-    requires { (a.at ≤ 12000) × (a.count ≤ 4096) × (a.first ≤ 80004) × (a.step ≤ 64) }
     ensures { (result.compared ≤ 4096) × (result.different ≤ 4096) }
 {
     let mut different: u64 = 0;
     let mut p = a.first;
     for i in 0..a.count {
-        different += differs(rt, b, p, a, transcript);
+        different += u64::from(differs(rt, b, p, a, transcript));
         p += a.step;
     }
     // An index is compared up to its end.

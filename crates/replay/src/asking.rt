@@ -1,6 +1,4 @@
 // The flank, the short intron and the spill of an interval.
-ghost use Rattle.std.specs.Prelude.{◌≤◌};
-
 use crate::numbers::{byte_at, u16_at, u32_at};
 use common::refusal::Refusal;
 use footprint::{
@@ -27,25 +25,21 @@ fn is_spill(spill: SpliceSpill, listed: u64) -> bool {
     spill.donor == (listed % 2 == 1) && spill.acceptor == (listed / 2 == 1)
 }
 
-// Whether the three questions about the interval at p, none of which is refused, have the answers that stand behind it.
-fn compare(b: &[u8], p: usize, transcript: &Transcript) -> Result<bool, Refusal>
-    requires { p ≤ 700000 }
-{
+// Whether the three questions about the interval, none of which is refused, have the answers that stand behind it.
+fn compare(b: &[u8], transcript: &Transcript) -> Result<bool, Refusal> {
     let c = transcript.model.chromosome;
-    let s = u32_at(b, p);
-    let e = u32_at(b, p + 4);
+    let s = u32_at(b, 0);
+    let e = u32_at(b, 4);
     let flank = classify_flank(c, s, e, transcript)?;
     let intron = frameshift_intron_endpoint(c, s, e, transcript)?;
     let spill = exonic_splice_spill(c, s, e, transcript)?;
     Ok(
-        is_flank(flank, byte_at(b, p + 8), u32_at(b, p + 12))
-            && is_endpoint(intron, u16_at(b, p + 10))
-            && is_spill(spill, byte_at(b, p + 9)),
+        is_flank(flank, byte_at(b, 8), u32_at(b, 12))
+            && is_endpoint(intron, u16_at(b, 10))
+            && is_spill(spill, byte_at(b, 9)),
     )
 }
 
-pub(crate) fn is_same(b: &[u8], p: usize, transcript: &Transcript) -> bool
-    requires { p ≤ 700000 }
-{
-    compare(b, p, transcript).unwrap_or(false)
+pub(crate) fn is_same(b: &[u8], transcript: &Transcript) -> bool {
+    compare(b, transcript).unwrap_or(false)
 }

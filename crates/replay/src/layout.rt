@@ -13,12 +13,12 @@ pub(crate) struct Answers {
     pub count: u64,
     pub first: usize,
     pub step: usize,
+    pub ghost bounded: { (count ≤ 4096) × (first ≤ 80004) × (step ≤ 64) },
 }
 
 // Answers behind their count, which stands at `from`.
 fn counted(b: &[u8], kind: Kind, at: usize, from: usize, step: usize) -> Answers
-    requires { (at ≤ 12000) × (from ≤ 80000) × (step ≤ 64) }
-    ensures { (result.at ≤ 12000) × (result.count ≤ 4096) × (result.first ≤ 80004) × (result.step ≤ 64) }
+    requires { (from ≤ 80000) × (step ≤ 64) }
 {
     Answers {
         kind,
@@ -31,7 +31,6 @@ fn counted(b: &[u8], kind: Kind, at: usize, from: usize, step: usize) -> Answers
 
 pub(crate) fn answers_of(b: &[u8], kind: Kind, at: usize) -> Answers
     requires { at ≤ 12000 }
-    ensures { (result.at ≤ 12000) × (result.count ≤ 4096) × (result.first ≤ 80004) × (result.step ≤ 64) }
 {
     match kind {
         Kind::Transcripts => Answers {

@@ -3,6 +3,11 @@ ghost use Rattle.std.specs.Prelude.{◌≤◌, ◌<◌};
 
 use common::little;
 
+// The bytes from i on.
+pub(crate) fn from(b: &[u8], i: usize) -> &[u8] {
+    b.get(i..).unwrap_or(&[])
+}
+
 pub(crate) fn byte_at(b: &[u8], i: usize) -> u64
     ensures { result < 256 }
 {

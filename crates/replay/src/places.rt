@@ -1,5 +1,5 @@
 // Places as the lists have them: 16 bytes.
-ghost use Rattle.std.specs.Prelude.{◌≤◌, ◌<◌};
+ghost use Rattle.std.specs.Prelude.{◌<◌};
 
 use crate::numbers::{byte_at, u16_at, u32_at};
 use locate::{SpliceSide, VariantLocation};
@@ -124,16 +124,14 @@ fn coding_of(place: VariantLocation) -> (u16, u8, u32) {
     }
 }
 
-// Whether the place is the one that stands from `at` on.
-pub(crate) fn same_place(b: &[u8], at: usize, place: VariantLocation) -> bool
-    requires { at ≤ 800000 }
-{
+// Whether the place is the one that stands here.
+pub(crate) fn same_place(b: &[u8], place: VariantLocation) -> bool {
     let (segment, position, number) = coding_of(place);
-    kind_of(place) == byte_at(b, at)
-        && mark_of(place) == (byte_at(b, at + 1) == 1)
-        && u64::from(index_of(place)) == u16_at(b, at + 2)
-        && u64::from(segment) == u16_at(b, at + 4)
-        && u64::from(position) == byte_at(b, at + 6)
-        && u64::from(number) == u32_at(b, at + 12)
-        && distance_of(place) == signed_of(u32_at(b, at + 8))
+    kind_of(place) == byte_at(b, 0)
+        && mark_of(place) == (byte_at(b, 1) == 1)
+        && u64::from(index_of(place)) == u16_at(b, 2)
+        && u64::from(segment) == u16_at(b, 4)
+        && u64::from(position) == byte_at(b, 6)
+        && u64::from(number) == u32_at(b, 12)
+        && distance_of(place) == signed_of(u32_at(b, 8))
 }

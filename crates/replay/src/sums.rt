@@ -1,18 +1,11 @@
 // Lists of an index, compared with those of a block.
-ghost use Rattle.std.specs.Prelude.{◌≤◌, length};
-
 use crate::numbers::{u16_at, u32_at};
 
-// Whether the sums are those from `at` on.
-pub(crate) fn same_sums(block: &[u8], at: usize, sums: &[u32]) -> bool
-    requires { (at ≤ 20000) × (length sums.now ≤ 513) }
-{
-    for (i, sum) in sums.iter().enumerate() {
-        if u64::from(*sum) != u32_at(block, at + 4 * i) {
-            return false;
-        }
-    }
-    true
+// Whether the sums are those listed.
+pub(crate) fn same_sums(listed: &[u8], sums: &[u32]) -> bool {
+    sums.iter()
+        .zip(listed.chunks_exact(4))
+        .all(|(sum, bytes)| u64::from(*sum) == u32_at(bytes, 0))
 }
 
 // The segment of exon i, 65535 where it has none: the exons from `first` to `last` have the segments in order.
@@ -24,23 +17,10 @@ fn segment_of(coding: bool, first: u64, last: u64, i: u64) -> u64 {
     }
 }
 
-// Whether the segments of the exons are those from `at` on.
-pub(crate) fn same_segments(
-    block: &[u8],
-    at: usize,
-    coding: bool,
-    first: u64,
-    last: u64,
-    exons: usize,
-) -> bool
-    requires { (at ≤ 25000) × (exons ≤ 512) }
-{
-    for i in 0..exons {
-        if segment_of(coding, first, last, i as u64) != u16_at(block, at + 2 * i) {
-            return false;
-        }
-    }
-    true
+// Whether the segments of the exons are those listed.
+pub(crate) fn same_segments(listed: &[u8], coding: bool, first: u64, last: u64) -> bool {
+    listed.chunks_exact(2).enumerate().all(|(i, bytes)| segment_of(coding, first, last, i as u64)
+        == u16_at(bytes, 0))
 }
 
 // Whether one of the codon numbers is n.
@@ -48,38 +28,21 @@ fn is_in(numbers: &[u32], n: u64) -> bool {
     numbers.iter().any(|number| u64::from(*number) == n)
 }
 
-// Whether one of the `listed` numbers from `at` on is n.
-fn is_listed(block: &[u8], at: usize, listed: usize, n: u64) -> bool
-    requires { (at ≤ 30000) × (listed ≤ 64) }
-{
-    for i in 0..listed {
-        if u32_at(block, at + 4 * i) == n {
-            return true;
-        }
-    }
-    false
+// Whether one of the listed numbers is n.
+fn is_listed(listed: &[u8], n: u64) -> bool {
+    listed.chunks_exact(4).any(|bytes| u32_at(bytes, 0) == n)
 }
 
 // Whether each listed codon number is one of those given: the list has each once and in order.
-pub(crate) fn all_in(block: &[u8], at: usize, listed: usize, numbers: &[u32]) -> bool
-    requires { (at ≤ 30000) × (listed ≤ 64) }
-{
-    for i in 0..listed {
-        if !is_in(numbers, u32_at(block, at + 4 * i)) {
-            return false;
-        }
-    }
-    true
+pub(crate) fn all_in(listed: &[u8], numbers: &[u32]) -> bool {
+    listed
+        .chunks_exact(4)
+        .all(|bytes| is_in(numbers, u32_at(bytes, 0)))
 }
 
 // Whether each of the codon numbers is listed.
-pub(crate) fn all_listed(block: &[u8], at: usize, listed: usize, numbers: &[u32]) -> bool
-    requires { (at ≤ 30000) × (listed ≤ 64) }
-{
-    for number in numbers {
-        if !is_listed(block, at, listed, u64::from(*number)) {
-            return false;
-        }
-    }
-    true
+pub(crate) fn all_listed(listed: &[u8], numbers: &[u32]) -> bool {
+    numbers
+        .iter()
+        .all(|number| is_listed(listed, u64::from(*number)))
 }

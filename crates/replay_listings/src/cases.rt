@@ -1,17 +1,18 @@
 // One case of the list.
-ghost use Rattle.std.specs.Prelude.{◌≤◌, ◌<◌, IsNone, IfSome};
+ghost use Rattle.std.specs.Prelude.{◌<◌, IsNone, IfSome};
 
 use crate::stored::{read_part, skip};
 use crate::whole::compare_listing;
 use common::little::u32_at;
 use console::{buffer, print, print_decimal};
+use pieces::ListingFiles;
 use std::io::Read;
 
-// What became of a case: its bytes where they are the same, and 1 where it differs.
+// What became of a case: its bytes where they are the same, and whether it differs.
 #[derive(Drop)]
 pub(crate) struct Outcome {
     pub bytes: u64,
-    pub different: u64,
+    pub different: bool,
 }
 
 fn report(rt: &impl Print, what: &[u8], number: u64) {
@@ -43,7 +44,7 @@ pub(crate) fn replay_case(
     number: u64,
     sizes: &[u8; 16],
 ) -> Option<Outcome>
-    ensures { IfSome result (λ o. (o.bytes < 4294967296) × (o.different ≤ 1)) }
+    ensures { IfSome result (λ o. o.bytes < 4294967296) }
 {
     let mut deck = buffer::<65553>();
     let mut window = buffer::<65553>();
@@ -55,11 +56,16 @@ pub(crate) fn replay_case(
         return cut_off(rt, number);
     }
     let stored = size_at(sizes, 12);
-    let compared = compare_listing(input, &deck[..d], &window[..w], &calls[..c], stored);
+    let files = ListingFiles {
+        deck: &deck[..d],
+        window: &window[..w],
+        calls: &calls[..c],
+    };
+    let compared = compare_listing(input, files, stored);
     let Err(left) = compared else {
         return Some(Outcome {
             bytes: stored as u64,
-            different: 0,
+            different: false,
         });
     };
     report(rt, b"different: case ", number);
@@ -68,6 +74,6 @@ pub(crate) fn replay_case(
     skip(input, left);
     Some(Outcome {
         bytes: 0,
-        different: 1,
+        different: true,
     })
 }

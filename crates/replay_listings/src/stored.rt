@@ -5,7 +5,8 @@ ghost use Rattle.console.specs.Counts.{IsPrefixLen};
 use console::{buffer, read_full};
 use std::io::Read;
 
-// Reads the next n bytes to the front of `into`, and gives how many it read: none where they do not fit.
+// Reads the next n bytes to the front of `into`, and gives how many it read: none where they do not fit, which no caller tells apart
+// from an input that has ended.
 pub(crate) fn read_part(input: &mut impl Read, into: &mut [u8], n: usize) -> usize
     ensures prefix_len { IsPrefixLen result into.new }
     ensures upper_bound { result ≤ n }

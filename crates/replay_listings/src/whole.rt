@@ -2,7 +2,7 @@
 use crate::stored::is_next;
 use console::buffer;
 use listing::first;
-use pieces::list_piece;
+use pieces::{ListingFiles, list_piece};
 use std::io::Read;
 
 // Compares a piece with as many of the stored bytes that are left, and answers how many are left then: `Err` where it differs.
@@ -18,20 +18,18 @@ fn compare_piece(input: &mut impl Read, bytes: &[u8], left: usize) -> Result<usi
     }
 }
 
-// The listing of a deck, a window file and the calls, up to the first piece that differs from the stored bytes: how many of these are
+// The listing of the files, up to the first piece that differs from the stored bytes: how many of these are
 // left then, or behind the end.
 pub(crate) fn compare_listing(
     input: &mut impl Read,
-    deck: &[u8],
-    window: &[u8],
-    calls: &[u8],
+    files: ListingFiles,
     stored: usize,
 ) -> Result<(), usize> {
     let mut out = buffer::<4096>();
     let mut cursor = first();
     let mut left = stored;
     loop {
-        let Ok(piece) = list_piece(deck, window, calls, cursor, &mut out) else {
+        let Ok(piece) = list_piece(files, cursor, &mut out) else {
             return Err(left);
         };
         left = compare_piece(input, &out[..piece.length], left)?;

@@ -47,34 +47,28 @@ fn is_line(row: &[u8], rank: u32) -> bool {
     row.ends_with(b"\n") && name_length(rank) != 0 && begins_line(row, rank)
 }
 
-// 1, and a line.
-fn report(rt: &impl Print, what: &[u8], rank: u32) -> u64
-    ensures { result ≤ 1 }
-{
+fn report(rt: &impl Print, what: &[u8], rank: u32) {
     print(rt, what);
     print_decimal(rt, rank as u64);
     print(rt, b"\n");
-    1
 }
 
-// 1 where the row is not the line of the rank, which is then written, else 0.
-fn row_differs(rt: &impl Print, row: &[u8], rank: u32) -> u64
-    ensures { result ≤ 1 }
-{
-    if is_line(row, rank) {
-        return 0;
+// Whether the row is not the line of the rank, which is then written.
+fn row_differs(rt: &impl Print, row: &[u8], rank: u32) -> bool {
+    let differs = !is_line(row, rank);
+    if differs {
+        report(rt, b"different: rank ", rank);
     }
-    report(rt, b"different: rank ", rank)
+    differs
 }
 
-// 1 where a name of the rank is here, and no row was left for it, else 0.
-fn row_lacks(rt: &impl Print, rank: u32) -> u64
-    ensures { result ≤ 1 }
-{
-    if name_length(rank) == 0 {
-        return 0;
+// Whether a name of the rank is here, for which no row was left. The rank is then written.
+fn row_lacks(rt: &impl Print, rank: u32) -> bool {
+    let lacks = name_length(rank) != 0;
+    if lacks {
+        report(rt, b"no row: rank ", rank);
     }
-    report(rt, b"no row: rank ", rank)
+    lacks
 }
 
 // How long the first row is, with the newline that ends it.
@@ -95,11 +89,11 @@ fn compare(rt: &impl Print, text: &[u8]) {
     let mut differ: u64 = 0;
     while rank < 99 && !rest.is_empty() {
         let (row, more) = rest.split_at(row_length(rest));
-        differ += row_differs(rt, row, rank);
+        differ += u64::from(row_differs(rt, row, rank));
         rank += 1;
         rest = more;
     }
-    differ += row_lacks(rt, rank);
+    differ += u64::from(row_lacks(rt, rank));
     print_decimal(rt, rank as u64 - 1);
     print(rt, b" terms, ");
     print_decimal(rt, differ);

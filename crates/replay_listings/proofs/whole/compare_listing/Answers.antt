@@ -5,4 +5,4 @@ pub loop-piece-smaller : goal.loop-piece-smaller
 loop-piece-smaller g c =
     let a = c.args in
     let l = c.loop-piece in
-    piece_less a.deck.now a.window.now a.calls.now l.cursor l.out c.list_piece.ensures.0 c.in-Ok.is c.in-Some.is
+    piece_less a.files.deck.now a.files.window.now a.files.calls.now l.cursor l.out c.list_piece.ensures.0 c.in-Ok.is c.in-Some.is

@@ -7,4 +7,4 @@ abbrev pub invariant-loop-piece : goal.invariant-loop-piece
 invariant-loop-piece g l = 4096 ≡ length l.out
 
 abbrev pub decreases-loop-piece : goal.decreases-loop-piece
-decreases-loop-piece g l = length (steps l.deck l.window l.calls l.cursor)
+decreases-loop-piece g l = length (steps l.files.deck.now l.files.window.now l.files.calls.now l.cursor)

@@ -1,5 +1,5 @@
 use Rattle.std.proofs.Common.{length, ◌-◌, ◌≤◌}
-use Rattle.lister.proofs.write.write_all.Given as goal
+use Rattle.lister.proofs.write.Output.write_all.Given as goal
 
 -- what is written lies in the bytes
 abbrev pub invariant-loop-done : goal.invariant-loop-done
