@@ -7,7 +7,6 @@ ghost use Rattle.words.specs.Lengths.{calls_fit};
 ghost use Rattle.answers.specs.Calls.{snv, calls_of, calls_words, CallsAnswered};
 
 use crate::lent::{Coded, Indexed};
-use crate::order::ascends;
 use crate::snv::put_snv;
 use codon::altered_letters;
 use common::refusal::Refusal;
@@ -33,17 +32,10 @@ fn call_at(calls: &CallLists, i: usize) -> Call
     }
 }
 
-// The answers one behind the other, to a list that ascends or does not.
+// The answers one behind the other.
 // By index: what `chunks_exact_mut` leaves in the buffer no proof knows.
 // That the flank is small is a fact of one number: as a ghost field it would narrow footprint's Ranges.
-fn put_calls(
-    ascending: bool,
-    ranges: Ranges,
-    window: &Window,
-    calls: &CallLists,
-    coded: Coded,
-    out: &mut [i64],
-)
+fn put_calls(ranges: Ranges, window: &Window, calls: &CallLists, coded: Coded, out: &mut [i64])
     requires near { ranges.flank < 2 ^ 32 }
     requires fits { let c = calls.now in
         calls_fit c.chromosomes.now c.positions.now c.refs.now c.alts.now out.old ≡ true }
@@ -55,14 +47,7 @@ fn put_calls(
     for i in 0..calls.positions.len() {
         let call = call_at(calls, i);
         let at = CALL_WORDS * i;
-        put_snv(
-            ascending,
-            ranges,
-            window,
-            call,
-            coded,
-            &mut out[at..at + CALL_WORDS],
-        );
+        put_snv(ranges, window, call, coded, &mut out[at..at + CALL_WORDS]);
     }
 }
 
@@ -85,7 +70,6 @@ pub fn answer_calls(
     let both = altered_letters();
     let index = index_of(admitted);
     put_calls(
-        ascends(calls.positions),
         source_ranges(),
         window,
         calls,

@@ -7,7 +7,6 @@ mod cds;
 mod interval;
 mod lent;
 mod line;
-mod order;
 mod place;
 mod places;
 mod position;

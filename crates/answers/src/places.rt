@@ -13,7 +13,8 @@ use transcript::Transcript;
 use transcript::admission::Admitted;
 use words::{PLACE_WORDS, put_located};
 
-// The places of the positions, one behind the other. By index, as put_calls.
+// The places of the positions, one behind the other. By index, as put_calls. Not inlined: the caller's index would be copied.
+#[inline(never)]
 fn put_places(ranges: Ranges, chromosome: u16, positions: &[u64], indexed: Indexed, out: &mut [i64])
     requires near { ranges.flank < 2 ^ 32 }
     requires fits { length out.old ≡ 8 * length positions.now }

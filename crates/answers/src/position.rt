@@ -7,7 +7,6 @@ use crate::lent::Indexed;
 use common::refusal::Refusal;
 use footprint::Ranges;
 use locate::VariantLocation;
-use locate::place::place_of_base;
 use transcript::question::{QUERY_LIMIT, base_of};
 
 // The place of [p, p + 1).
@@ -26,11 +25,5 @@ pub(crate) fn locate_position(
         return Err(Refusal::Chromosome);
     }
     let q = base_of(indexed.admitted.transcript.model.strand, p);
-    Ok(place_of_base::<true>(
-        ranges,
-        indexed.admitted,
-        indexed.index.scalars,
-        &indexed.index.cumulative_exons,
-        q,
-    ))
+    Ok(indexed.place(ranges, q))
 }

@@ -6,7 +6,6 @@ ghost use Rattle.answers.specs.Calls.{call_words};
 
 use crate::cds::put_cds_snv;
 use crate::lent::Coded;
-use crate::order::place_by_order;
 use consequence::{
     Call, CodedTranscript, CodingBase, CodingPlace, Window, annotate_placed, judge_opening,
 };
@@ -15,16 +14,8 @@ use locate::VariantLocation;
 use transcript::question::base_of;
 use words::{put_called, put_refusal};
 
-// The answer as 20 numbers to a call of a list that ascends or does not. Most calls are at coding bases, and these
-// need no answer by value.
-pub(crate) fn put_snv(
-    ascending: bool,
-    ranges: Ranges,
-    window: &Window,
-    call: Call,
-    coded: Coded,
-    out: &mut [i64],
-)
+// The answer as 20 numbers to a call of a list. Most calls are at coding bases, and these need no answer by value.
+pub(crate) fn put_snv(ranges: Ranges, window: &Window, call: Call, coded: Coded, out: &mut [i64])
     requires near { ranges.flank < 2 ^ 32 }
     requires room { length out.old ≡ 20 }
     ensures { let w = window_of window.now in
@@ -37,7 +28,7 @@ pub(crate) fn put_snv(
         return;
     }
     let p = base_of(indexed.admitted.transcript.model.strand, call.position);
-    let place = place_by_order(ascending, ranges, indexed, p);
+    let place = indexed.place(ranges, p);
     if let VariantLocation::CdsExon {
         exon_index,
         cds_segment_index,

@@ -34,7 +34,7 @@ pub fn annotate_admitted(
     let transcript = coded.transcript;
     judge_opening(transcript.model.chromosome, window, call)?;
     let p = base_of(transcript.model.strand, call.position);
-    let place = place_of_base::<true>(
+    let place = place_of_base(
         ranges,
         Admitted { transcript },
         scalars,

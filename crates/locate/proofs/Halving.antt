@@ -1,4 +1,4 @@
--- A step of the binary searches, and the bracket that it keeps.
+-- A step of the binary search, and the bracket that it keeps.
 -- Assumes nothing.
 use Prim.Native.Nat.{ℕ, ◌+◌, ◌-◌, ◌/◌, ◌≤◌, ◌<◌}
 use mathlib.Core.Path.{◌≡◌}
@@ -31,21 +31,6 @@ module _ (xs : List Interval) (p lo hi mid : ℕ) (o : Ascends 0 xs) (b : Bracke
 -- none started from hi on: nor from a place behind it
 pub loosened : (xs : List Interval) (p lo hi to : ℕ) → Bracket xs p lo hi → hi ≤ to → to ≤ length xs → Bracket xs p lo to
 loosened xs p lo hi to b h l = record { lo_le = let n = b.lo_le in omega arith; hi_le = l; before = b.before; after = λ k q r. b.after k (omega arith) r }
-
--- halving: so many are left, and the last of the first half is looked at
-module _ (xs : List Interval) (p lo left : ℕ) (o : Ascends 0 xs) (b : Bracket xs p lo (lo + left)) (some : 0 < left) where
-  abbrev middle : ℕ
-  middle = lo + (left - left / 2) - 1
-
-  pub second_half : (get_or xs middle nowhere).start ≤ p → Bracket xs p (middle + 1) (middle + 1 + (left - (left - left / 2)))
-  second_half f =
-      let e : lo + left ≡ middle + 1 + (left - (left - left / 2)) = omega arith in
-      rw e at (up xs p lo (lo + left) middle o b (omega arith) (omega arith) f)
-
-  pub first_half : p < (get_or xs middle nowhere).start → Bracket xs p lo (lo + (left - (left - left / 2)))
-  first_half f =
-      let h = b.hi_le in
-      loosened xs p lo middle (lo + (left - (left - left / 2))) (down xs p lo (lo + left) middle o b (omega arith) (omega arith) f) (omega arith) (omega arith)
 
 -- halving behind interval i, which has started: it and those behind it that may have started are so many
 module _ (xs : List Interval) (p i left : ℕ) (o : Ascends 0 xs) (b : Bracket xs p (i + 1) (i + left)) (some : 1 < left) where

@@ -1,7 +1,7 @@
 -- Intervals that can be searched, at an index, and what a search finds from the number of them that start at or before the base.
 -- Assumes nothing.
-use Prim.Native.Nat.{ℕ, zero, suc, ◌≤◌, ◌<◌}
-use mathlib.Core.Path.{◌≡◌, refl, sym, ap}
+use Prim.Native.Nat.{ℕ, suc, ◌≤◌, ◌<◌}
+use mathlib.Core.Path.{◌≡◌, sym, ap}
 use mathlib.Core.List.{List}
 use native.Mathlib.Omega.{arith}
 use lib.ListN.{length, get_or}
@@ -10,14 +10,14 @@ use Rattle.locate.specs.declared.ExonOrIntron.{ExonOrIntron}
 use Rattle.transcript.specs.Limits.{top}
 use Rattle.transcript.specs.Transcript.{exons_of}
 use Rattle.transcript.specs.Orient.{Interval, interval, orient}
-use Rattle.transcript.specs.Bases.{first_start, last_end}
+use Rattle.transcript.specs.Bases.{last_end}
 use Rattle.locate.specs.Find.{find_exon_or_intron}
 use Rattle.transcript.specs.code.Lent.{lent_exons}
 use Rattle.locate.specs.code.Features.{feature}
 use Rattle.locate.specs.code.Search.{Ready, Started, exon_or_intron}
 use Rattle.transcript.proofs.Ascends.{Ascends}
 use Rattle.transcript.proofs.Admitted.{ascending_exons, exons_high}
-use Rattle.transcript.proofs.Listed.{nowhere, oriented_length, oriented_at, edges_at, first_at}
+use Rattle.transcript.proofs.Listed.{nowhere, oriented_length, oriented_at, edges_at}
 use Rattle.transcript.proofs.Orient.{orient_high, orient_low}
 use Rattle.locate.proofs.Walking.{at_exon, at_gap, at_past}
 
@@ -56,16 +56,6 @@ module _ (σ : Strand) (ss es : List ℕ) (ad : Ready σ ss es) where
 
 -- the answers of the search, from the number of exons that have started
 module _ (σ : Strand) (ss es : List ℕ) (ad : Ready σ ss es) (p n : ℕ) (le : n ≤ length ss) (st : Started (lent_exons σ ss es) p n) where
-  pub found_some : 0 < length ss → first_start (lent_exons σ ss es) ≤ p → 0 < n
-  found_some s h =
-      let c = count σ ss es ad in
-      let f = first_at (lent_exons σ ss es) (omega arith) in
-      some n refl (λ z. (let r = st.after 0 (omega arith) (omega arith) in omega arith))
-    where
-      some : (m : ℕ) → m ≡ n → (n ≡ 0 → ⊥) → 0 < n
-      some zero q f = absurd (f (omega arith))
-      some (suc m) q f = omega arith
-
   pub found_exon : (i : ℕ) → suc i ≡ n → p < (get_or (lent_exons σ ss es) i nowhere).end
       → ExonOrIntron.Exon (feature i (get_or (lent_exons σ ss es) i nowhere)) ≡ exon_or_intron (find_exon_or_intron (lent_exons σ ss es) p)
   found_exon i e h =

@@ -78,7 +78,7 @@ pub(crate) fn place_alone(ranges: Ranges, admitted: Admitted, p: u64) -> Variant
     if last <= p {
         return downstream_place(ranges, p - last + 1);
     }
-    let found = Ordered::exons(admitted).find::<true>(p);
+    let found = Ordered::exons(admitted).find(p);
     match found {
         ExonOrIntron::Exon(exon) => exon_alone(admitted, exon, p),
         ExonOrIntron::Intron(intron) => classify_intronic(ranges, transcript, intron, p),

@@ -12,7 +12,6 @@ mod positions;
 mod prefix_sums;
 mod search;
 mod selenocysteine;
-mod unordered;
 mod variant;
 
 pub use index::{index_of, scalars_of};

@@ -85,8 +85,9 @@ pub(crate) fn exon_base(
     exonic_place(counts, a, b, p, i, mark)
 }
 
-// The place of p, an oriented coordinate, with the search that suits bases in order, or in none.
-pub fn place_of_base<const IN_ORDER: bool>(
+// The place of p, an oriented coordinate. Inlined, as `find`.
+#[inline(always)]
+pub fn place_of_base(
     ranges: Ranges,
     admitted: Admitted,
     scalars: IndexScalars,
@@ -111,7 +112,7 @@ pub fn place_of_base<const IN_ORDER: bool>(
     if last <= p {
         return downstream_place(ranges, p - last + 1);
     }
-    let found = Ordered::exons(admitted).find::<IN_ORDER>(p);
+    let found = Ordered::exons(admitted).find(p);
     match found {
         ExonOrIntron::Exon(exon) => exon_base(admitted, scalars, cumulative_exons, exon, p),
         ExonOrIntron::Intron(intron) => classify_intronic(ranges, transcript, intron, p),

@@ -24,7 +24,7 @@ pub(crate) fn cds_offset_of(segments: &Ordered, sums: &[u32], p: u64) -> CdsOffs
     requires held { inside_any p (in_order segments.now) ≡ true }
     ensures { result.0 ≡ first_sum sums.now + bases_in (in_order segments.now) 0 p }
 {
-    let found = segments.find::<true>(p);
+    let found = segments.find(p);
     match found {
         ExonOrIntron::Exon(exon) => CdsOffset(offset_at(sums, exon.index, exon.start, p)),
         ExonOrIntron::Intron(intron) => CdsOffset(0),

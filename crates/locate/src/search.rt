@@ -21,9 +21,9 @@ pub struct Ordered<'a> {
 
 // An interval by its index, with its start.
 #[derive(Clone, Copy)]
-pub(crate) struct LastStarted {
-    pub(crate) index: usize,
-    pub(crate) start: u64,
+struct LastStarted {
+    index: usize,
+    start: u64,
 }
 
 impl<'a> Ordered<'a> {
@@ -82,49 +82,55 @@ impl<'a> Ordered<'a> {
         self.stranded().end(i)
     }
 
-    // How many start at or before p, an oriented coordinate. What is left shrinks alike on both ways. A step is a jump, which a
-    // processor foretells well where bases come in order. No partition_point: a call for each strand's list is no plainer, and the order of
-    // each list would be proved apart.
-    pub fn started(self, p: u64) -> usize
-        ensures { (result ≤ length self.entry.intervals.starts.now) × Started (in_order self.entry) p result }
-    {
-        let mut lo: usize = 0;
-        let mut left = self.intervals.starts.len();
-        while 0 < left {
-            let half = left - left / 2;
-            let mid = lo + half - 1;
-            if self.start(mid) <= p {
-                lo = mid + 1;
-            }
-            left -= half;
-        }
-        lo
-    }
-
-    // The last that starts at or before p, an oriented coordinate at or after the first start, by the search that suits bases in order,
-    // or in none.
+    // The last that starts at or before p, an oriented coordinate at or after the first start. The start goes along with the index, so
+    // that the compiler makes a step of conditional moves: jumps are hard to foretell, also where bases come in order. No
+    // partition_point: a call for each strand's list is no plainer, and the order of each list would be proved apart.
     // That p is not before the first is a fact of p and these intervals, handed down one private chain of calls.
-    fn last_started<const IN_ORDER: bool>(self, p: u64) -> LastStarted
+    #[inline(always)]
+    fn last_started(self, p: u64) -> LastStarted
         requires some { 0 < length self.intervals.starts.now }
         requires ends_bound { first_start (in_order self) ≤ p }
         ensures { LastStart (in_order self.entry) p result.index result.start }
     {
-        if !IN_ORDER {
-            return self.last_unordered(p);
+        let mut index: usize = 0;
+        let mut start = self.start(index);
+        let mut left = self.intervals.starts.len();
+        while 1 < left {
+            let half = left / 2;
+            let mid = index + half;
+            let at = self.start(mid);
+            if at <= p {
+                index = mid;
+                start = at;
+            }
+            left -= half;
         }
-        let index = self.started(p) - 1;
-        let start = self.start(index);
         LastStarted { index, start }
     }
 
-    // The exon or intron that holds p, with its edges.
-    pub(crate) fn find<const IN_ORDER: bool>(self, p: u64) -> ExonOrIntron
+    // How many start at or before p, an oriented coordinate.
+    pub fn started(self, p: u64) -> usize
+        ensures { (result ≤ length self.entry.intervals.starts.now) × Started (in_order self.entry) p result }
+    {
+        if self.intervals.starts.is_empty() {
+            return 0;
+        }
+        if p < self.start(0) {
+            return 0;
+        }
+        self.last_started(p).index + 1
+    }
+
+    // The exon or intron that holds p, with its edges. Inlined, as what it calls: a place handed back through memory takes longer than
+    // the search.
+    #[inline(always)]
+    pub(crate) fn find(self, p: u64) -> ExonOrIntron
         requires some { 0 < length self.intervals.starts.now }
         requires ends_bound { first_start (in_order self) ≤ p }
         ensures { let xs = in_order self.entry in
             (result ≡ exon_or_intron (find_exon_or_intron xs p)) × FoundAt xs p result }
     {
-        let last = self.last_started::<IN_ORDER>(p);
+        let last = self.last_started(p);
         let i = last.index;
         let n = i + 1;
         let past = self.end(i);

@@ -48,9 +48,9 @@ returns-in-Err c =
     ∙ whole c.args.out.now (called_words (Err c.in-Err.refusal)) (omega arith)
     ∙ ap called_words (refused c.args.ranges (transcript b) (window b) c.args.call c.in-Err.refusal (sym (r.ensures (transcript b) c.args.coded.indexed.admitted.admitted refl) ∙ c.in-Err.is))
 
-pub place_by_order-place-requires : goal.place_by_order-place-requires
-place_by_order-place-requires c =
-    let b = (goal.at.place_by_order-place-requires c).Start in
+pub place-place-requires : goal.place-place-requires
+place-place-requires c =
+    let b = (goal.at.place-place-requires c).Start in
     let r = c.judge_opening-opening in
     low b c.base_of-p.result c.base_of-p.ensures (opened b r.result c.in_default.field-0 (r.ensures (transcript b) c.args.coded.indexed.admitted.admitted refl) c.in_default.is)
 
@@ -67,7 +67,7 @@ returns-in-CdsExon c =
     let p = c.base_of-p in
     let o = opened b r.result c.in_default.field-0 (r.ensures (transcript b) c.args.coded.indexed.admitted.admitted refl) c.in_default.is in
     c.put_cds_snv.ensures
-    ∙ ap called_words (answered c.args.ranges (transcript b) (window b) c.args.call o p.result p.ensures _ (sym c.in-CdsExon.is ∙ c.place_by_order-place.ensures) _ refl _ refl)
+    ∙ ap called_words (answered c.args.ranges (transcript b) (window b) c.args.call o p.result p.ensures _ (sym c.in-CdsExon.is ∙ c.place-place.ensures) _ refl _ refl)
 
 pub annotate_placed-called-requires : goal.annotate_placed-called-requires
 annotate_placed-called-requires c =
@@ -76,7 +76,7 @@ annotate_placed-called-requires c =
     let o = opened b r.result c.in_default.field-0 (r.ensures (transcript b) c.args.coded.indexed.admitted.admitted refl) c.in_default.is in
     record {
       prepared = prepared c.args.coded.indexed;
-      located = c.place_by_order-place.ensures;
+      located = c.place-place.ensures;
       low = low b c.base_of-p.result c.base_of-p.ensures o;
     }
 
@@ -85,7 +85,7 @@ returns c =
     let b = (goal.at.returns c).Start in
     let r = c.judge_opening-opening in
     let p = c.base_of-p in
-    let h = c.place_by_order-place in
+    let h = c.place-place in
     let x = c.annotate_placed-called in
     let o = opened b r.result c.in_default.field-0 (r.ensures (transcript b) c.args.coded.indexed.admitted.admitted refl) c.in_default.is in
     let e = x.ensures ∙ answered c.args.ranges (transcript b) (window b) c.args.call o p.result p.ensures h.result h.ensures _ refl _ refl in

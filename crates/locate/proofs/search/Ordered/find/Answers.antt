@@ -10,22 +10,22 @@ use Rattle.locate.proofs.search.Ordered.find.Goals as goal
 use Rattle.locate.proofs.search.Ordered.find.Goals.{After-last_started-last}
 
 -- there is an exon at the index
-low : {g : _} (c : After-last_started-last g) → c.last_started-last.result.index < length c.args.self.intervals.starts.now
+low : (c : After-last_started-last) → c.last_started-last.result.index < length c.args.self.intervals.starts.now
 low c =
     let n = count c.args.self.strand c.args.self.intervals.starts.now c.args.self.intervals.ends.now c.args.self.ready in
     let l = c.last_started-last.ensures.index in
     omega arith
 
 pub overflow_add-n : goal.overflow_add-n
-overflow_add-n g c = let l = low (goal.at.overflow_add-n g c).After-last_started-last in omega arith
+overflow_add-n c = let l = low (goal.at.overflow_add-n c).After-last_started-last in omega arith
 
 pub end-past-requires : goal.end-past-requires
-end-past-requires g c = low (goal.at.end-past-requires g c).After-last_started-last
+end-past-requires c = low (goal.at.end-past-requires c).After-last_started-last
 
 pub returns-then-p-past : goal.returns-then-p-past
-returns-then-p-past g c =
+returns-then-p-past c =
     let x = c.args.self in
-    let k = low (goal.at.returns-then-p-past g c).After-last_started-last in
+    let k = low (goal.at.returns-then-p-past c).After-last_started-last in
     let s = c.last_started-last in
     let i = s.result.index in
     let h = s.ensures.started.before i (omega arith) in
@@ -37,9 +37,9 @@ returns-then-p-past g c =
     )
 
 pub returns-then-n-self : goal.returns-then-n-self
-returns-then-n-self g c =
+returns-then-n-self c =
     let x = c.args.self in
-    let k = low (goal.at.returns-then-n-self g c).After-last_started-last in
+    let k = low (goal.at.returns-then-n-self c).After-last_started-last in
     let s = c.last_started-last in
     let i = s.result.index in
     let n = count x.strand x.intervals.starts.now x.intervals.ends.now x.ready in
@@ -54,9 +54,9 @@ returns-then-n-self g c =
     )
 
 pub returns : goal.returns
-returns g c =
+returns c =
     let x = c.args.self in
-    let k = low (goal.at.returns g c).After-last_started-last in
+    let k = low (goal.at.returns c).After-last_started-last in
     let s = c.last_started-last in
     let i = s.result.index in
     let v = c.end-past.ensures in

@@ -1,27 +1,35 @@
-use Prim.Native.Nat.{◌+◌, ◌-◌, ◌≤◌}
 use mathlib.Core.Path.{◌≡◌}
 use native.Mathlib.Omega.{arith}
-use Rattle.locate.proofs.Searching.{count, found_some}
+use Rattle.transcript.specs.code.Lent.{lent_exons}
+use Rattle.transcript.proofs.Listed.{first_at}
+use Rattle.locate.proofs.Halving.{later_half, earlier_half}
+use Rattle.locate.proofs.Searching.{ascends, count}
 use Rattle.locate.proofs.search.Ordered.last_started.Goals as goal
-use Rattle.locate.proofs.search.Ordered.last_started.Goals.{After-started-index}
+use Rattle.locate.proofs.search.Ordered.last_started.Goals.{then-at-p, else-at-p}
 
--- the base is not before the first start, so an interval has started
-some_started : {g : _} (c : After-started-index g) → 1 ≤ c.started-index.result
-some_started c =
-    let s = c.started-index in
-    found_some c.args.self.strand c.args.self.intervals.starts.now c.args.self.intervals.ends.now c.args.self.ready c.args.p s.result s.ensures.0 s.ensures.1 c.requires.some c.requires.ends_bound
+pub loop-left-init : goal.loop-left-init
+loop-left-init c =
+    let xs = lent_exons c.args.self.strand c.args.self.intervals.starts.now c.args.self.intervals.ends.now in
+    let n = count c.args.self.strand c.args.self.intervals.starts.now c.args.self.intervals.ends.now c.args.self.ready in
+    let r = c.requires.some in
+    let f = first_at xs (omega arith) in
+    let g = c.requires.ends_bound in
+    (r, omega arith, record { lo_le = omega arith; hi_le = omega arith; before = λ k q. (let z : k ≡ 0 = omega arith in rw z (omega arith)); after = λ k q t. absurd (omega arith) }, c.start-start.ensures)
 
-pub overflow_sub-index : goal.overflow_sub-index
-overflow_sub-index g c = some_started (goal.at.overflow_sub-index g c).After-started-index
+pub loop-left-preserved : goal.loop-left-preserved
+loop-left-preserved c =
+    let l = c.loop-left in
+    let xs = lent_exons c.args.self.strand c.args.self.intervals.starts.now c.args.self.intervals.ends.now in
+    let o = ascends c.args.self.strand c.args.self.intervals.starts.now c.args.self.intervals.ends.now c.args.self.ready in
+    let f = c.start-at.ensures in
+    elim c.if-at-p.branch [
+      | then-at-p w ↦ rw (w.index-is, w.start-is) (omega arith, omega arith, later_half xs c.args.p l.index l.left o l.invariant.2 (omega arith) (let t = w.if-at-p.true in omega arith), f)
+      | else-at-p w ↦ rw (w.index-is, w.start-is) (omega arith, omega arith, earlier_half xs c.args.p l.index l.left o l.invariant.2 (omega arith) (let t = w.if-at-p.false in omega arith), l.invariant.3)
+    ]
 
 pub returns : goal.returns
-returns g c =
-    let k = some_started (goal.at.returns g c).After-started-index in
-    let s = c.started-index in
+returns c =
+    let l = c.loop-left in
     let n = count c.args.self.strand c.args.self.intervals.starts.now c.args.self.intervals.ends.now c.args.self.ready in
-    let e : s.result - 1 + 1 ≡ s.result = omega arith in
-    record {
-      index = omega arith;
-      started = rw e s.ensures.1;
-      start_is = c.start-start.ensures;
-    }
+    let i = l.invariant.2 in
+    record { index = omega arith; started = record { before = λ k q. i.before k (omega arith); after = λ k q r. i.after k (omega arith) r }; start_is = l.invariant.3 }
