@@ -25,6 +25,8 @@ use locate::{IndexScalars, Ordered};
 // by the letters of a genetic code.
 // Segment `near` may hold the offset. The segments and their sums stand apart: as one struct a call of a list took a twentieth to a fifth
 // longer.
+// Inlined, as fetch_ref_codon and read_codon, so that what a codon gives is not laid out in memory.
+#[inline(always)]
 pub fn read_cds_codon(
     letters: CodeLetters,
     scalars: IndexScalars,

@@ -62,6 +62,8 @@ fn whole_codon(
 }
 
 // The codon c of a coding base, which becomes the base put in, by the letters of a genetic code.
+// Inlined, as read_cds_codon.
+#[inline(always)]
 pub(crate) fn read_codon(
     letters: CodeLetters,
     start: bool,

@@ -73,6 +73,8 @@ fn codon_of(len: u8, first: u8, second: u8, third: u8) -> Codon
 
 // The codon that holds padded offset k: its bases, unless one lies outside the window. Segment `near` may hold k; if it does, no search
 // is needed. Segments and sums apart, as in read_cds_codon.
+// Inlined, as read_cds_codon.
+#[inline(always)]
 pub(crate) fn fetch_ref_codon(
     scalars: IndexScalars,
     segments: &Ordered,

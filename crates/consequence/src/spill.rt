@@ -38,6 +38,8 @@ fn hits_acceptor(exons: Ordered, n: usize, p: u64) -> bool
 }
 
 // The windows that p, an oriented base, hits. Without a short intron, `short`, there are none.
+// Inlined, since mostly there is none.
+#[inline(always)]
 pub fn spill_at(short: bool, exons: Ordered, p: u64) -> SpliceSpill
     requires p_le_top { p ≤ top }
     ensures { (t : Oriented)
