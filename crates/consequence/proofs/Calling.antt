@@ -1,15 +1,17 @@
 -- The whole answer to a call, from its parts.
 -- Assumes nothing.
-use Prim.Native.Nat.{ℕ}
+use Prim.Native.Nat.{ℕ, ◌≤◌}
 use mathlib.Core.Path.{◌≡◌, sym, ◌∙◌, ap}
 use lib.Dec.{eqb}
+use Rattle.transcript.specs.Limits.{top}
 use Rattle.transcript.specs.Transcript.{Transcript}
 use Rattle.transcript.specs.Orient.{orient_base, oriented}
 use Rattle.transcript.specs.Admission.{admission}
-use Rattle.std.specs.Prelude.{Err}
+use Rattle.transcript.proofs.Asking.{base_low}
+use Rattle.std.specs.Prelude.{Result, Ok, Err}
 use Rattle.common.specs.declared.refusal.Refusal.{Refusal}
 use Rattle.common.specs.Refusal.{outcome}
-use Rattle.common.proofs.Outcome.{passed_first}
+use Rattle.common.proofs.Outcome.{passed_first, was_answered}
 use Rattle.common.proofs.TestParts.{on_test}
 use Rattle.footprint.specs.declared.SpliceSpill.{SpliceSpill}
 use Rattle.footprint.specs.declared.Ranges.{Ranges}
@@ -23,9 +25,18 @@ use Rattle.consequence.specs.Window.{Window, coding_byte}
 use Rattle.consequence.specs.Answer.{place_result}
 use Rattle.consequence.specs.Call.{call_table, add_splice_spill, call_place, call_codon, lacks_codon, opening_refusal, closing_refusal, call_refusal, call_result, annotate_snv}
 use Rattle.consequence.specs.code.AtPlace.{place_called, spill_at, spilled}
+use Rattle.consequence.proofs.Refusals.{opening_within}
 
 pub spilled_outcome : (s : SpliceSpill) (n : ℕ) (a : ConsequenceResult) → spilled s (outcome n a) ≡ outcome n (add_splice_spill s a)
 spilled_outcome s n a = on_test (eqb n 0) (λ e. rw e) (λ e. rw e)
+
+module _ (t : Transcript) (w : Window) (q : Call) where
+  -- past the refusals before the place
+  pub opened : (r : Result (Unit {0}) Refusal) (u : Unit {0}) → r ≡ outcome (opening_refusal t w q) tt → r ≡ Ok u → opening_refusal t w q ≡ 0
+  opened r u e o = was_answered tt (opening_refusal t w q) u (sym e ∙ o)
+
+  pub opened_low : admission t ≡ 0 → opening_refusal t w q ≡ 0 → (p : ℕ) → p ≡ orient_base t.model.strand q.position → p ≤ top
+  opened_low a h p e = rw e (base_low t.model.strand q.position (opening_within t w q a h))
 
 module _ (r : Ranges) (t : Transcript) (w : Window) (q : Call) where
   -- a refusal before the place is known

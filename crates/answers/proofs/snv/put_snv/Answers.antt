@@ -1,20 +1,11 @@
 -- The words of a refusal, of a coding base, or of the answer at another place.
-use Prim.Native.Nat.{ℕ, ◌≤◌}
-use mathlib.Core.Path.{◌≡◌, refl, sym, ◌∙◌, ap}
+use mathlib.Core.Path.{refl, sym, ◌∙◌, ap}
 use native.Mathlib.Omega.{arith}
-use Rattle.std.specs.Prelude.{Result, Ok, Err}
-use Rattle.common.specs.declared.refusal.Refusal.{Refusal}
-use Rattle.common.specs.Refusal.{outcome}
-use Rattle.common.proofs.Outcome.{was_answered}
-use Rattle.transcript.specs.Limits.{top}
+use Rattle.std.specs.Prelude.{Err}
 use Rattle.transcript.specs.Transcript.{Transcript, transcript_of}
-use Rattle.transcript.specs.Orient.{orient_base}
-use Rattle.transcript.proofs.Asking.{base_low}
 use Rattle.consequence.specs.Window.{Window, window_of}
-use Rattle.consequence.specs.Call.{opening_refusal}
 use Rattle.consequence.specs.Numbers.{called_words}
-use Rattle.consequence.proofs.Refusals.{opening_within}
-use Rattle.consequence.proofs.Calling.{refused, answered}
+use Rattle.consequence.proofs.Calling.{refused, opened, opened_low, answered}
 use Rattle.words.specs.code.Near.{Answers, NearResult}
 use Rattle.words.proofs.Putting.{whole}
 use Rattle.words.proofs.WordLengths.{called_length}
@@ -30,16 +21,6 @@ transcript b = transcript_of b.args.coded.indexed.admitted.transcript.now
 abbrev window : Start → Window
 window b = window_of b.args.window.now
 
-abbrev opening : Start → ℕ
-opening b = opening_refusal (transcript b) (window b) b.args.call
-
--- past the first refusals
-opened : (b : Start) (r : Result (Unit {0}) Refusal) (u : Unit {0}) → r ≡ outcome (opening b) tt → r ≡ Ok u → opening b ≡ 0
-opened b r u e o = was_answered tt (opening b) u (sym e ∙ o)
-
-low : (b : Start) (p : ℕ) → p ≡ orient_base b.args.coded.indexed.admitted.transcript.now.model.strand b.args.call.position → opening b ≡ 0 → p ≤ top
-low b p e h = rw e (base_low b.args.coded.indexed.admitted.transcript.now.model.strand b.args.call.position (opening_within (transcript b) (window b) b.args.call b.args.coded.indexed.admitted.admitted h))
-
 pub returns-in-Err : goal.returns-in-Err
 returns-in-Err c =
     let b = (goal.at.returns-in-Err c).Start in
@@ -52,20 +33,20 @@ pub place-place-requires : goal.place-place-requires
 place-place-requires c =
     let b = (goal.at.place-place-requires c).Start in
     let r = c.judge_opening-opening in
-    low b c.base_of-p.result c.base_of-p.ensures (opened b r.result c.in_default.field-0 (r.ensures (transcript b) c.args.coded.indexed.admitted.admitted refl) c.in_default.is)
+    opened_low (transcript b) (window b) c.args.call c.args.coded.indexed.admitted.admitted (opened (transcript b) (window b) c.args.call _ _ (r.ensures (transcript b) c.args.coded.indexed.admitted.admitted refl) c.in_default.is) _ c.base_of-p.ensures
 
 pub put_cds_snv-requires-clause-low : goal.put_cds_snv-requires-clause-low
 put_cds_snv-requires-clause-low c =
     let b = (goal.at.put_cds_snv-requires-clause-low c).Start in
     let r = c.judge_opening-opening in
-    low b c.base_of-p.result c.base_of-p.ensures (opened b r.result c.in_default.field-0 (r.ensures (transcript b) c.args.coded.indexed.admitted.admitted refl) c.in_default.is)
+    opened_low (transcript b) (window b) c.args.call c.args.coded.indexed.admitted.admitted (opened (transcript b) (window b) c.args.call _ _ (r.ensures (transcript b) c.args.coded.indexed.admitted.admitted refl) c.in_default.is) _ c.base_of-p.ensures
 
 pub returns-in-CdsExon : goal.returns-in-CdsExon
 returns-in-CdsExon c =
     let b = (goal.at.returns-in-CdsExon c).Start in
     let r = c.judge_opening-opening in
     let p = c.base_of-p in
-    let o = opened b r.result c.in_default.field-0 (r.ensures (transcript b) c.args.coded.indexed.admitted.admitted refl) c.in_default.is in
+    let o = opened (transcript b) (window b) c.args.call _ _ (r.ensures (transcript b) c.args.coded.indexed.admitted.admitted refl) c.in_default.is in
     c.put_cds_snv.ensures
     ∙ ap called_words (answered c.args.ranges (transcript b) (window b) c.args.call o p.result p.ensures _ (sym c.in-CdsExon.is ∙ c.place-place.ensures) _ refl _ refl)
 
@@ -73,11 +54,11 @@ pub annotate_placed-called-requires : goal.annotate_placed-called-requires
 annotate_placed-called-requires c =
     let b = (goal.at.annotate_placed-called-requires c).Start in
     let r = c.judge_opening-opening in
-    let o = opened b r.result c.in_default.field-0 (r.ensures (transcript b) c.args.coded.indexed.admitted.admitted refl) c.in_default.is in
+    let o = opened (transcript b) (window b) c.args.call _ _ (r.ensures (transcript b) c.args.coded.indexed.admitted.admitted refl) c.in_default.is in
     record {
       prepared = prepared c.args.coded.indexed;
       located = c.place-place.ensures;
-      low = low b c.base_of-p.result c.base_of-p.ensures o;
+      low = opened_low (transcript b) (window b) c.args.call c.args.coded.indexed.admitted.admitted o _ c.base_of-p.ensures;
     }
 
 pub returns : goal.returns
@@ -87,7 +68,7 @@ returns c =
     let p = c.base_of-p in
     let h = c.place-place in
     let x = c.annotate_placed-called in
-    let o = opened b r.result c.in_default.field-0 (r.ensures (transcript b) c.args.coded.indexed.admitted.admitted refl) c.in_default.is in
+    let o = opened (transcript b) (window b) c.args.call _ _ (r.ensures (transcript b) c.args.coded.indexed.admitted.admitted refl) c.in_default.is in
     let e = x.ensures ∙ answered c.args.ranges (transcript b) (window b) c.args.call o p.result p.ensures h.result h.ensures _ refl _ refl in
     let near : Answers NearResult x.result = rw e (near_called c.args.ranges (transcript b) (window b) c.args.call c.requires.near) in
     let n = called_length x.result in

@@ -1,17 +1,8 @@
-use Rattle.std.proofs.Common.{◌≡◌, ℕ, ◌≤◌, refl, sym, ◌∙◌}
+use Rattle.std.proofs.Common.{refl, sym, ◌∙◌}
 use Rattle.std.proofs.lemmas.Result.{err_from_is_err_and}
-use Rattle.common.proofs.Outcome.{was_answered}
-use Rattle.transcript.specs.Limits.{top}
-use Rattle.std.specs.Prelude.{Result, Ok}
-use Rattle.common.specs.declared.refusal.Refusal.{Refusal}
-use Rattle.common.specs.Refusal.{outcome}
 use Rattle.transcript.specs.Transcript.{Transcript, transcript_of}
-use Rattle.transcript.specs.Orient.{orient_base}
-use Rattle.transcript.proofs.Asking.{base_low}
 use Rattle.consequence.specs.Window.{Window, window_of}
-use Rattle.consequence.specs.Call.{opening_refusal}
-use Rattle.consequence.proofs.Refusals.{opening_within}
-use Rattle.consequence.proofs.Calling.{refused, answered}
+use Rattle.consequence.proofs.Calling.{refused, opened, opened_low, answered}
 use Rattle.consequence.proofs.admitted.annotate_admitted.Goals as goal
 use Rattle.consequence.proofs.admitted.annotate_admitted.Goals.{Start}
 
@@ -28,30 +19,23 @@ returns-in_err-judge_opening c =
     let p = err_from_is_err_and c.from_residual.result c.from_residual.ensures.1 in
     rw (p.1, p.2) (refused c.args.ranges (transcript b) (window b) c.args.call c.in_err-judge_opening.field-0.0 (sym (r.ensures (transcript b) c.requires.prepared.admitted refl) ∙ c.in_err-judge_opening.was))
 
--- past the first refusals
-opened : (b : Start) (r : Result (Unit {0}) Refusal) (u : Unit {0}) → r ≡ outcome (opening_refusal (transcript b) (window b) b.args.call) tt → r ≡ Ok u → opening_refusal (transcript b) (window b) b.args.call ≡ 0
-opened b r u e o = was_answered tt (opening_refusal (transcript b) (window b) b.args.call) u (sym e ∙ o)
-
-low : (b : Start) (p : ℕ) → p ≡ orient_base b.args.coded.transcript.now.model.strand b.args.call.position → opening_refusal (transcript b) (window b) b.args.call ≡ 0 → p ≤ top
-low b p e h = rw e (base_low b.args.coded.transcript.now.model.strand b.args.call.position (opening_within (transcript b) (window b) b.args.call b.requires.prepared.admitted h))
-
 pub place_of_base-place-requires : goal.place_of_base-place-requires
 place_of_base-place-requires c =
     let b = (goal.at.place_of_base-place-requires c).Start in
-    let o = opened b c.judge_opening.result c.in_ok-judge_opening.field-0 (c.judge_opening.ensures (transcript b) c.requires.prepared.admitted refl) c.in_ok-judge_opening.was in
+    let o = opened (transcript b) (window b) b.args.call _ _ (c.judge_opening.ensures (transcript b) c.requires.prepared.admitted refl) c.in_ok-judge_opening.was in
     let h = c.requires.prepared in
-    record { indexed = (h.scalars_are, h.exons_are); low = low b c.base_of-p.result c.base_of-p.ensures o }
+    record { indexed = (h.scalars_are, h.exons_are); low = opened_low (transcript b) (window b) b.args.call b.requires.prepared.admitted o _ c.base_of-p.ensures }
 
 pub annotate_placed-requires : goal.annotate_placed-requires
 annotate_placed-requires c =
     let b = (goal.at.annotate_placed-requires c).Start in
-    let o = opened b c.judge_opening.result c.in_ok-judge_opening.field-0 (c.judge_opening.ensures (transcript b) c.requires.prepared.admitted refl) c.in_ok-judge_opening.was in
-    record { prepared = c.requires.prepared; located = c.place_of_base-place.ensures; low = low b c.base_of-p.result c.base_of-p.ensures o }
+    let o = opened (transcript b) (window b) b.args.call _ _ (c.judge_opening.ensures (transcript b) c.requires.prepared.admitted refl) c.in_ok-judge_opening.was in
+    record { prepared = c.requires.prepared; located = c.place_of_base-place.ensures; low = opened_low (transcript b) (window b) b.args.call b.requires.prepared.admitted o _ c.base_of-p.ensures }
 
 pub returns : goal.returns
 returns c =
     let b = (goal.at.returns c).Start in
-    let o = opened b c.judge_opening.result c.in_ok-judge_opening.field-0 (c.judge_opening.ensures (transcript b) c.requires.prepared.admitted refl) c.in_ok-judge_opening.was in
+    let o = opened (transcript b) (window b) b.args.call _ _ (c.judge_opening.ensures (transcript b) c.requires.prepared.admitted refl) c.in_ok-judge_opening.was in
     c.annotate_placed.ensures
     ∙ answered b.args.ranges (transcript b) (window b) b.args.call o c.base_of-p.result c.base_of-p.ensures
     c.place_of_base-place.result c.place_of_base-place.ensures _ refl _ refl
