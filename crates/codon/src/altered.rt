@@ -42,7 +42,7 @@ pub fn build_alt_codon(c: Codon, place: u8, b: u8) -> Codon
 }
 
 // The letters of both genetic codes.
-#[derive(Drop)]
+#[derive(Clone, Copy)]
 pub struct AllLetters {
     pub bytes: [u8; 1536],
     pub ghost both: { BothLetters bytes },
