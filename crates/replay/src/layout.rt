@@ -13,12 +13,12 @@ pub(crate) struct Answers {
     pub count: u64,
     pub first: usize,
     pub step: usize,
-    pub ghost bounded: { (count ≤ 4096) × (first ≤ 80004) × (step ≤ 64) },
+    pub ghost bounded: { (at ≤ 12000) × (count ≤ 4096) × (first ≤ 80004) × (step ≤ 64) },
 }
 
 // Answers behind their count, which stands at `from`.
 fn counted(b: &[u8], kind: Kind, at: usize, from: usize, step: usize) -> Answers
-    requires { (from ≤ 80000) × (step ≤ 64) }
+    requires { (at ≤ 12000) × (from ≤ 80000) × (step ≤ 64) }
 {
     Answers {
         kind,
