@@ -11,8 +11,10 @@ use lib.Dec.{ltb}
 use borrow.Author.Tests.{lt-ltb, le-ltb, ltb-true, ltb-false}
 use Rattle.common.proofs.TestParts.{on_test}
 use Rattle.transcript.specs.declared.Strand.{Strand}
+use Rattle.transcript.specs.declared.Strand.TheVariants.{Minus}
+use Rattle.transcript.specs.Limits.{coordinate_limit}
 use Rattle.transcript.specs.Transcript.{exons_of}
-use Rattle.transcript.specs.Orient.{Interval}
+use Rattle.transcript.specs.Orient.{Interval, orient, orient_base}
 use Rattle.transcript.specs.Bases.{size}
 use Rattle.transcript.proofs.Listed.{nowhere, edges_at}
 use Rattle.locate.specs.Index.{cumulative}
@@ -24,6 +26,10 @@ use Rattle.locate.proofs.LentIndex.{sizes_turned}
 use Rattle.locate.proofs.Searching.{count}
 use Rattle.locate.specs.Place.{coding_position}
 use Rattle.consequence.specs.code.Segments.{Segments, Rising, Held}
+
+-- base d of [s, e) on the minus strand
+pub nth_minus : (s e d : ℕ) → d < e - s → e ≤ coordinate_limit → orient_base Minus ((orient Minus s e).start + d) ≡ e - 1 - d
+nth_minus s e d h l = omega arith
 
 cumulative_from : (first : ℕ) (ns : List ℕ) (k : ℕ) → k ≤ length ns → first ≤ get_or (cumulative first ns) k 0
 unfolding cumulative

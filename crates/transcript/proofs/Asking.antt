@@ -52,6 +52,10 @@ module _ (t : Transcript) (a : Result (Unit {0}) Refusal) (is : a ≡ admission_
 
 -- the refusal of a question, case by case
 module _ (t : Transcript) (bad away : Bool) where
+  pub by_admission_number : (n : ℕ) → 0 < n → n ≡ admission t → question_refusal t bad away ≡ n
+  unfolding question_refusal
+  by_admission_number n l h = rw (sym h, ne_eqb n 0 (λ z. (omega arith)))
+
   pub by_15 : admission t ≡ 0 → bad ≡ true → question_refusal t bad away ≡ 15
   unfolding question_refusal
   by_15 h b = rw (h, b)

@@ -42,6 +42,11 @@ module _ (σ : Strand) (s e : ℕ) (l : e ≤ coordinate_limit) where
       same Plus h = refl
       same Minus h = omega arith
 
+-- orienting keeps the order
+pub orient_order : (σ : Strand) (s e : ℕ) → s ≤ e → (orient σ s e).start ≤ (orient σ s e).end
+orient_order Plus s e h = h
+orient_order Minus s e h = omega arith
+
 pub orient_low : (σ : Strand) (s e : ℕ) → s ≤ coordinate_limit → (orient σ s e).start ≤ top
 orient_low Plus s e l = omega arith
 orient_low Minus s e l = omega arith
