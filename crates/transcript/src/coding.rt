@@ -65,14 +65,17 @@ pub(crate) fn are_cuts(exons: Stranded, cds: CdsBounds, segments: CdsSegments) -
     k == segments.exon_indexes.len()
 }
 
-// 10, 11, 12: the first and the last coding base, and the segments.
+// 10, 11, 12: the first and the last coding base, and the segments. `differ`: the segments are known not to be the cuts.
 pub(crate) fn judge_cds(
     exons: Stranded,
     cds: CdsBounds,
     segments: CdsSegments,
+    differ: bool,
 ) -> Result<(), Refusal>
     requires cuttable { IsCuttable exons.intervals cds segments }
     requires ordered { cds.cds_genomic_start < cds.cds_genomic_end }
+    requires known { let bases = orient exons.strand cds.cds_genomic_start cds.cds_genomic_end in
+        differ ≡ true → same_cuts (cuts_in exons.strand segments) (cuts bases 0 (oriented_in exons.strand exons.intervals)) ≡ false }
     ensures { let strand = exons.entry.strand in
         let bases = orient strand cds.cds_genomic_start cds.cds_genomic_end in
         result ≡ outcome (cds_fault true bases (oriented_in strand exons.entry.intervals) (cuts_in strand segments.entry)) tt }
@@ -86,10 +89,19 @@ pub(crate) fn judge_cds(
     if !holds_base(exons.intervals, last) {
         return Err(Refusal::LastCodingBase);
     }
-    if !are_cuts(exons, cds, segments) {
+    if differ || !are_cuts(exons, cds, segments) {
         return Err(Refusal::Segments);
     }
     Ok(())
+}
+
+// Whether the ends of a list are those of a run of numbers, as the indexes of cuts are. A look that spares a comparison: no answer
+// rests on it.
+fn is_run(indexes: &[u16]) -> bool {
+    match (indexes.first(), indexes.last()) {
+        (Some(first), Some(last)) => usize::from(*last) + 1 == usize::from(*first) + indexes.len(),
+        _ => true,
+    }
 }
 
 // 8 to 12: the segments. Where they span the CDS and are its cuts nothing is at fault, and no fault is looked for, which takes longer.
@@ -104,11 +116,11 @@ pub(crate) fn judge_segments(transcript: &Transcript) -> Result<(), Refusal>
     let segments = transcript.segments;
     let exons = Stranded::exons(transcript);
     let bases = Stranded::segments(transcript);
-    if !bad_bounds(bases, cds.cds_genomic_start, cds.cds_genomic_end)
-        && are_cuts(exons, cds, segments)
-    {
+    let span = is_run(segments.exon_indexes)
+        && !bad_bounds(bases, cds.cds_genomic_start, cds.cds_genomic_end);
+    if span && are_cuts(exons, cds, segments) {
         return Ok(());
     }
     judge_indexes(transcript.exons.starts.len(), segments.exon_indexes)?;
-    judge_cds(exons, cds, segments)
+    judge_cds(exons, cds, segments, span)
 }
