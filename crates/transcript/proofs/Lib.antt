@@ -7,6 +7,7 @@ pub mod Whole
 pub mod Segmented
 pub mod AdmissionRows
 pub mod Admitted
+mod Beside
 pub mod Between
 pub mod Listed
 pub mod Steps

@@ -39,15 +39,17 @@ pub fn lies_in(p: u64, s: u64, e: u64) -> bool
     s <= p && p < e
 }
 
-// Whether one of the intervals holds the base.
+// Whether one of the intervals holds the base. By index: from two iterators side by side an interval costs more than half as much again.
 pub(crate) fn holds_base(intervals: Intervals, p: u64) -> bool
     ensures { result ≡ any_lent (λ s e. inside p (interval s e)) intervals.entry }
 {
-    intervals
-        .starts
-        .iter()
-        .zip(intervals.ends)
-        .any(|(start, end)| lies_in(p, *start, *end))
+    let n = intervals.starts.len().min(intervals.ends.len());
+    for i in 0..n {
+        if lies_in(p, intervals.starts[i], intervals.ends[i]) {
+            return true;
+        }
+    }
+    false
 }
 
 // 13: a base that no segment holds.

@@ -35,9 +35,10 @@ returns-then-differ c =
     let f = inside_at σ x c.first_base-first.result c.holds_base.result (sym c.holds_base.ensures) c.requires.cuttable.edges cds.start c.first_base-first.ensures in
     let l = inside_at σ x c.last_base-last.result c.holds_base-2.result (sym c.holds_base-2.ensures) c.requires.cuttable.edges (cds.end - 1) c.last_base-last.ensures in
     let cut : same_cuts (cuts_in σ c.args.segments) (cuts cds 0 (oriented_in σ x)) ≡ false =
-        elim c.then-differ.branch [
-            then-differ-via-then-differ w ↦ c.requires.known w.if-differ.true
-            | then-differ-via-else-differ+then-not-are_cuts w ↦ sym w.are_cuts.ensures ∙ w.if-not-are_cuts.true ] in
+    elim c.then-differ.branch [
+      | then-differ-via-then-differ w ↦ c.requires.known w.if-differ.true
+      | then-differ-via-else-differ+then-not-are_cuts w ↦ sym w.are_cuts.ensures ∙ w.if-not-are_cuts.true
+    ] in
     refused_by tt Refusal.Segments _ (sym (lacks_cuts _ cds (oriented_in σ x) (cuts_in σ c.args.segments) refl (f ∙ c.if-not-holds_base.false) (l ∙ c.if-not-holds_base-2.false) cut))
 
 pub returns : goal.returns

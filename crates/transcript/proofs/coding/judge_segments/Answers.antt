@@ -14,6 +14,7 @@ returns-then-are_cuts c =
     let x = c.exons-exons.ensures in
     let b = c.segments-bases.ensures in
     elim c.if-is_run.branch [
-        then-is_run w ↦ answered tt _ (sym (some_segmented c.args.transcript.now c.requires.known.0 c.requires.framed c.requires.known.1 c.in-Some.cds c.in-Some.is
-            (rw (b.0, b.1) at (sym w.bad_bounds.ensures ∙ not-true _ (sym w.span-is ∙ c.if-span.true))) (rw (x.0, x.1) at (sym c.are_cuts.ensures ∙ c.if-are_cuts.true))))
-        | else-is_run w ↦ absurd (true_false (sym c.if-span.true ∙ w.span-is ∙ w.if-is_run.false)) ]
+      | then-is_run w ↦ answered tt _ (sym (some_segmented c.args.transcript.now c.requires.known.0 c.requires.framed c.requires.known.1 c.in-Some.cds c.in-Some.is
+          (rw (b.0, b.1) at (sym w.bad_bounds.ensures ∙ not-true _ (sym w.span-is ∙ c.if-span.true))) (rw (x.0, x.1) at (sym c.are_cuts.ensures ∙ c.if-are_cuts.true))))
+      | else-is_run w ↦ absurd (true_false (sym c.if-span.true ∙ w.span-is ∙ w.if-is_run.false))
+    ]
