@@ -5,7 +5,7 @@ ghost use Rattle.consequence.specs.Window.{window_of};
 ghost use Rattle.answers.specs.Lines.{line_outcome, LineAnswered};
 
 use common::refusal::Refusal;
-use consequence::{Call, Window, annotate_snv};
+use consequence::{Call, Window, annotate_snv, by_number};
 use lines::write_called;
 use transcript::Transcript;
 use words::VareffectOutcome;
@@ -39,6 +39,6 @@ pub fn answer_line(
         LineAnswered t w call number out.old out.new result }
 {
     let called = annotate_snv(window, call, transcript);
-    let written = write_called(out, number, transcript.model.id, called);
+    let written = write_called(out, number, transcript.model.id, by_number(called));
     outcome_of(written)
 }

@@ -2,17 +2,29 @@
 ghost use Rattle.std.specs.Prelude.{◌≡◌, ◌<◌, ◌^◌, length};
 ghost use Rattle.transcript.specs.Transcript.{transcript_of};
 ghost use Rattle.consequence.specs.Window.{window_of};
+ghost use Rattle.consequence.specs.Called.{by_number};
+ghost use Rattle.words.specs.code.Put.{put_at};
+ghost use Rattle.words.specs.code.Near.{capped_words};
 ghost use Rattle.answers.specs.Calls.{call_words};
 
 use crate::cds::put_cds_snv;
 use crate::lent::Coded;
 use consequence::{
-    Call, CodedTranscript, CodingBase, CodingPlace, Window, annotate_placed, judge_opening,
+    Call, Called, CodedTranscript, CodingBase, CodingPlace, Window, annotate_placed, by_number,
+    judge_opening,
 };
 use footprint::Ranges;
 use locate::VariantLocation;
 use transcript::question::base_of;
 use words::{put_called, put_refusal};
+
+// The answer, or its refusal, as 20 numbers. Not inlined: the calls at coding bases, which need none of it, would take longer.
+#[inline(never)]
+fn put_placed(out: &mut [i64], called: Called)
+    ensures { out.new ≡ put_at out.old 0 (capped_words (by_number called)) }
+{
+    put_called(out, 0, by_number(called));
+}
 
 // The answer as 20 numbers to a call of a list. Most calls are at coding bases, and these need no answer by value.
 pub(crate) fn put_snv(ranges: Ranges, window: &Window, call: Call, coded: Coded, out: &mut [i64])
@@ -73,5 +85,5 @@ pub(crate) fn put_snv(ranges: Ranges, window: &Window, call: Call, coded: Coded,
         place,
         p,
     );
-    put_called(out, 0, called);
+    put_placed(out, called);
 }

@@ -1,9 +1,11 @@
 // The single-base call: its types and its questions.
 #![tactic(auto)]
 
+ghost use Rattle.std.specs.Prelude.{◌≡◌};
 ghost use Rattle.codon.specs.code.Letters.{LentLetters};
 ghost use Rattle.transcript.specs.Transcript.{transcript_of};
 ghost use Rattle.consequence.specs.Call.{call_table};
+ghost use Rattle.consequence.specs.Called.{by_number};
 
 mod admitted;
 mod answer;
@@ -108,3 +110,14 @@ pub struct ConsequenceResult {
 
 // The answer to a call, or its refusal.
 pub type Called = Result<ConsequenceResult, Refusal>;
+
+// The answer, or the refusal's number: lines and rows are made of any number.
+#[inline(always)]
+pub fn by_number(called: Called) -> Result<ConsequenceResult, u8>
+    ensures { result ≡ by_number called }
+{
+    match called {
+        Ok(answer) => Ok(answer),
+        Err(refusal) => Err(u8::from(refusal)),
+    }
+}

@@ -1,7 +1,7 @@
 // Document 01's transcript T1 with its window, and its three calls, printed as lines.
 #![tactic(auto)]
 
-use consequence::{Call, Window, annotate_snv};
+use consequence::{Call, Window, annotate_snv, by_number};
 use console::print;
 use lines::write_called;
 use transcript::{CdsBounds, CdsSegments, Intervals, Strand, Transcript, TranscriptModel};
@@ -55,7 +55,7 @@ fn show(rt: &impl Print, number: u64, position: u64, ref_base: u8, alt_base: u8)
     };
     let called = annotate_snv(&WINDOW, call, &T1);
     let mut out = [0u8; 256];
-    if let Ok(n) = write_called(&mut out, number, 7, called) {
+    if let Ok(n) = write_called(&mut out, number, 7, by_number(called)) {
         print(rt, &out[..n]);
     }
 }

@@ -1,6 +1,5 @@
 -- How long each column can be, and the line of a call.
 -- Assumes nothing.
-use Rattle.common.specs.Refusal.{refusal}
 use Rattle.std.specs.Prelude.{Err, Ok}
 use Rattle.std.proofs.Common.{Option, Some, None}
 use Prim.Native.Nat.{ℕ, ◌≤◌}
@@ -10,7 +9,6 @@ use native.Mathlib.Omega.{arith}
 use lib.ListN.{length, length-append}
 use Rattle.common.specs.Text.{byte, decimal}
 use Rattle.common.proofs.Digits.{digits_length}
-use Rattle.common.specs.Refusal.{number}
 use Rattle.codon.specs.declared.Codons.{Codons}
 use Rattle.codon.specs.declared.AminoAcids.{AminoAcids}
 use Rattle.codon.specs.Display.{format_codon, format_codons, format_amino_acids}
@@ -18,11 +16,11 @@ use Rattle.locate.specs.declared.VariantLocation.{VariantLocation}
 use Rattle.locate.specs.PlaceKind.{place_kind, place_names, place_name}
 use Rattle.names.proofs.Names.{short_texts}
 use Rattle.consequence.specs.declared.Numbered.{Numbered}
-use Rattle.consequence.specs.Called.{Called}
+use Rattle.consequence.specs.Called.{Called, by_number}
 use Rattle.consequence.specs.declared.ConsequenceResult.{ConsequenceResult}
 use Rattle.consequence.specs.Answer.{cdna_count}
 use Rattle.lines.specs.Line.{joined, numbered, counted, answer_line, refusal_line, called_line}
-use Rattle.lines.specs.claims.Longest.{LongestLine}
+use Rattle.lines.specs.claims.Longest.{LongestLine, LongestNumberedLine}
 use Rattle.lines.proofs.Shown.{codon_length_lem}
 use Rattle.lines.proofs.TermList.{terms_length}
 
@@ -81,9 +79,12 @@ refusal_length a b c =
     let z = digits_length 20 c in
     simp length-append (omega arith)
 
+pub longest_numbered_line : LongestNumberedLine
+longest_numbered_line line id (Ok a) = answer_length line id a
+longest_numbered_line line id (Err n) = let l = refusal_length line id n in omega arith
+
 pub longest_line : LongestLine
-longest_line line id (Ok a) = answer_length line id a
-longest_line line id (Err refusal) = let l = refusal_length line id (number refusal) in omega arith
+longest_line line id c = longest_numbered_line line id (by_number c)
 
 -- every line has its newline
 joined_some : (between last : ℕ) (ls : List (List ℕ)) → 1 ≤ length (joined between last ls)

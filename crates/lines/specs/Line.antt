@@ -2,14 +2,13 @@
 use Rattle.std.specs.Prelude.{ℕ, Bool, cond, List, [], ◌∷◌, ◌++◌, map, length, drop, leb, Option, Some, None, Result, Ok, Err}
 use Rattle.common.specs.Text.{byte, bytes, decimal}
 use Rattle.common.specs.declared.refusal.Refusal.{Refusal}
-use Rattle.common.specs.Refusal.{number}
 use Rattle.common.specs.declared.refusal.Refusal.TheVariants.{LineLength}
 use Rattle.codon.specs.Display.{format_codons, format_amino_acids}
 use Rattle.locate.specs.PlaceKind.{place_name}
 use Rattle.consequence.specs.declared.Numbered.{Numbered}
 use Rattle.consequence.specs.Answer.{cdna_count}
 use Rattle.consequence.specs.declared.ConsequenceResult.{ConsequenceResult}
-use Rattle.consequence.specs.Called.{Called}
+use Rattle.consequence.specs.Called.{Called, by_number}
 use Rattle.names.specs.Names.{term_name}
 use Rattle.terms.specs.Terms.{ranks}
 
@@ -58,9 +57,13 @@ answer_line number id a = line_of (
 unfoldable pub refusal_line : ℕ → ℕ → ℕ → List ℕ
 refusal_line a b c = line_of (decimal a ∷ decimal b ∷ decimal c ∷ [])
 
+-- the line of an answer, or of a refusal of any number
+abbrev pub numbered_line : ℕ → ℕ → Result ConsequenceResult ℕ → List ℕ
+numbered_line line id (Ok a) = answer_line line id a
+numbered_line line id (Err n) = refusal_line line id n
+
 abbrev pub called_line : ℕ → ℕ → Called → List ℕ
-called_line line id (Ok a) = answer_line line id a
-called_line line id (Err r) = refusal_line line id (number r)
+called_line line id called = numbered_line line id (by_number called)
 
 -- a line, newline included, longer than the lent buffer is refused, and only then
 abbrev pub fits : List ℕ → List ℕ → Bool

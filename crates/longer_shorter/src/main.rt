@@ -3,7 +3,7 @@
 // chromosome 25, where ATA reads M, AGA is a stop and TGA is none.
 #![tactic(auto)]
 
-use consequence::{Call, Window, annotate_snv};
+use consequence::{Call, Window, annotate_snv, by_number};
 use console::print;
 use lines::write_called;
 use transcript::{CdsBounds, CdsSegments, Intervals, Strand, Transcript, TranscriptModel};
@@ -85,7 +85,7 @@ fn show(rt: &impl Print, number: u64, transcript: &Transcript, call: Call) {
     };
     let called = annotate_snv(&window, call, transcript);
     let mut out = [0u8; 256];
-    if let Ok(n) = write_called(&mut out, number, transcript.model.id, called) {
+    if let Ok(n) = write_called(&mut out, number, transcript.model.id, by_number(called)) {
         print(rt, &out[..n]);
     }
 }

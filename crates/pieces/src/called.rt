@@ -11,7 +11,7 @@ ghost use Rattle.pieces.specs.code.Filling.{filled_as};
 use crate::call::call_indexed;
 use crate::opened::Sources;
 use common::refusal::Refusal;
-use consequence::Call;
+use consequence::{Call, by_number};
 use lines::write_called;
 use listing::{Cursor, Piece};
 
@@ -32,7 +32,7 @@ fn write_entry(
     let indexed = deck.index.entries[entry];
     let called = call_indexed(sources, call, indexed);
     let id = deck.table.ids[usize::from(indexed.row)];
-    write_called(out, number, id, called)
+    write_called(out, number, id, by_number(called))
 }
 
 // The lines of a call for the transcripts from the cursor on.

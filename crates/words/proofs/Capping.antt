@@ -15,7 +15,7 @@ use Rattle.footprint.specs.declared.SpliceSpill.{SpliceSpill}
 use Rattle.locate.specs.declared.VariantLocation.{VariantLocation}
 use Rattle.locate.specs.declared.VariantLocation.TheVariants.{Upstream, Downstream, Distal, FivePrimeUtr, CdsExon, ThreePrimeUtr, SpliceDonor, SpliceAcceptor, SpliceRegion, Intron, FrameshiftIntron, NonCodingExon, NonCodingIntron}
 use Rattle.locate.specs.Numbers.{place_words, located_words}
-use Rattle.consequence.specs.Called.{Called}
+use Rattle.consequence.specs.Called.{Called, by_number}
 use Rattle.consequence.specs.Numbers.{column_words, called_words}
 use Rattle.words.specs.IntervalWords.{interval_words}
 use Rattle.words.specs.code.Near.{Answers, NearFlank, Near, NearResult, capped, capped_flank, capped_place, capped_at, capped_words}
@@ -51,7 +51,7 @@ same_located : (x : Result VariantLocation Refusal) → Answers Near x → cappe
 same_located (Ok place) h = ap Ok (same_place place h)
 same_located (Err r) h = refl
 
-same_called : (x : Called) → Answers NearResult x → capped_words x ≡ called_words x
+same_called : (x : Called) → Answers NearResult x → capped_words (by_number x) ≡ called_words x
 same_called (Ok a) h = ap (λ (p : VariantLocation). pos 0 ∷ (place_words p ++ column_words a)) (same_place a.location h)
 same_called (Err r) h = refl
 
@@ -65,7 +65,7 @@ module _ (l : List ℤ) (at : ℕ) where
       let k = located_length x in
       ap (λ (y : Result VariantLocation Refusal). put_at l at (located_words y)) (same_located x n) ∙ put_fits (located_words x) (omega arith)
 
-  pub called_fits : (x : Called) → at + 20 ≤ length l → Answers NearResult x → put_at l at (capped_words x) ≡ sets l at (called_words x)
+  pub called_fits : (x : Called) → at + 20 ≤ length l → Answers NearResult x → put_at l at (capped_words (by_number x)) ≡ sets l at (called_words x)
   called_fits x h n =
       let k = called_length x in
       ap (put_at l at) (same_called x n) ∙ put_fits (called_words x) (omega arith)

@@ -11,7 +11,7 @@ use crate::columns::{
 };
 use crate::row::{place_words, row_of};
 use crate::words::{has_room, put_all, put_both, put_fitting, refusal_words};
-use consequence::{Called, ConsequenceResult};
+use consequence::ConsequenceResult;
 
 // The columns, which stand behind the place.
 #[inline(always)]
@@ -41,8 +41,10 @@ pub fn put_refusal(out: &mut [i64], at: usize, n: u8)
     put_all(out, at, &refusal_words::<20>(n));
 }
 
-// An answer as 20 numbers, in any buffer. Where they do not fit nothing is stored.
-pub fn put_called(out: &mut [i64], at: usize, called: Called)
+// An answer, or a refusal of any number, as 20 numbers, in any buffer. Where they do not fit nothing is stored. Inlined, so that an answer
+// is not laid out twice.
+#[inline(always)]
+pub fn put_called(out: &mut [i64], at: usize, called: Result<ConsequenceResult, u8>)
     ensures { out.new ≡ put_at out.old at (capped_words called) }
 {
     match called {
@@ -51,6 +53,6 @@ pub fn put_called(out: &mut [i64], at: usize, called: Called)
                 put_both(out, at, &place_words(row_of(a.location)), &column_words(a));
             }
         }
-        Err(refusal) => put_fitting(out, at, &refusal_words::<20>(u8::from(refusal))),
+        Err(n) => put_fitting(out, at, &refusal_words::<20>(n)),
     }
 }

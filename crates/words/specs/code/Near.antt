@@ -1,13 +1,12 @@
 -- Distances that fit 32 bits, and the largest of these in place of one that does not.
-use Rattle.std.specs.Prelude.{ℕ, ◌<◌, ◌^◌, min, List, ◌∷◌, ◌++◌, ℤ, pos, Result, Ok, Err}
+use Rattle.std.specs.Prelude.{ℕ, ◌<◌, ◌^◌, min, List, ◌∷◌, ◌++◌, replicate, ℤ, pos, Result, Ok, Err}
 use Rattle.common.specs.declared.refusal.Refusal.{Refusal}
 use Rattle.footprint.specs.declared.Flank.{Flank}
 use Rattle.locate.specs.declared.VariantLocation.{VariantLocation}
 use Rattle.locate.specs.declared.VariantLocation.TheVariants.{Upstream, Downstream, Distal, FivePrimeUtr, CdsExon, ThreePrimeUtr, SpliceDonor, SpliceAcceptor, SpliceRegion, Intron, FrameshiftIntron, NonCodingExon, NonCodingIntron}
 use Rattle.locate.specs.Numbers.{place_words}
 use Rattle.consequence.specs.declared.ConsequenceResult.{ConsequenceResult}
-use Rattle.consequence.specs.Called.{Called}
-use Rattle.consequence.specs.Numbers.{column_words, called_words}
+use Rattle.consequence.specs.Numbers.{column_words}
 
 -- an answer, if it is none of the refusals, is as said
 abbrev pub Answers : {A : Type 0} → (A → Type 0) → Result A Refusal → Type 0
@@ -69,7 +68,7 @@ abbrev pub capped_at : Result VariantLocation Refusal → Result VariantLocation
 capped_at (Ok place) = Ok (capped_place place)
 capped_at (Err r) = Err r
 
--- the words of an answer whose distance is capped
-abbrev pub capped_words : Called → List ℤ
+-- the words of an answer whose distance is capped, or of a refusal of any number
+abbrev pub capped_words : Result ConsequenceResult ℕ → List ℤ
 capped_words (Ok a) = pos 0 ∷ (place_words (capped_place a.location) ++ column_words a)
-capped_words (Err r) = called_words (Err r)
+capped_words (Err n) = pos n ∷ replicate 19 (pos 0)

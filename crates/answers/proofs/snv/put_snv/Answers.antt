@@ -72,4 +72,4 @@ returns c =
     let e = x.ensures ∙ answered c.args.ranges (transcript b) (window b) c.args.call o p.result p.ensures h.result h.ensures _ refl _ refl in
     let near : Answers NearResult x.result = rw e (near_called c.args.ranges (transcript b) (window b) c.args.call c.requires.near) in
     let n = called_length x.result in
-    c.put_called.ensures ∙ called_fits c.args.out.now 0 x.result (omega arith) near ∙ whole c.args.out.now (called_words x.result) (omega arith) ∙ ap called_words e
+    c.put_placed.ensures ∙ called_fits c.args.out.now 0 x.result (omega arith) near ∙ whole c.args.out.now (called_words x.result) (omega arith) ∙ ap called_words e

@@ -39,4 +39,4 @@ pub returns : goal.returns
 returns c =
     let d = c.args.sources.deck in
     let e = entry_line_lem d.table.now d.index.now d.indexed d.admitted c.args.entry c.requires (window_of c.args.sources.window.now) c.args.number c.args.call c.call_indexed-called.ensures in
-    rw (← e) (rw c.from.ensures at c.write_called.ensures)
+    rw (← e) (rw (c.from.ensures, c.by_number.ensures) at c.write_called.ensures)
